@@ -1,0 +1,29 @@
+-- The glossary: what the contracts say, in the order of the paper on the rules.
+--
+--   Tree      Forest: ordered trees. count, labels, sizes, dists: what a walk in preorder gives. from p: the forest
+--             that starts at row p; at g p: the whole with that part changed. relabel: the same trees, other labels
+--   Table     Table: the columns dist, size, value. tableOf: a tree's table. spelled: columns read back as a forest.
+--             sound: the table of one tree of 1 to 65,535 rows. run: the part of the insertions from a row on
+--   Change    Change: an insert, or a delete, rename or replace at a row. openPlace: where a child can be put.
+--             single: one change. meaning: a list, singly, the last first. lost, vain, kept: what a delete or
+--             replace makes vain
+--   Open      OpenPlace: open places in the paper's words, over columns. QuickPlace: the test in constant time
+--   Paint     Origin: an old row, or a row of a record's run. plan: a table's tree, painted with origins. written,
+--             origins: the table and the origins of a painted tree
+--   Records   change: what a record means. known, located, runs, follows, alone: tests 4 to 8 of a record.
+--             failing: the first that fails
+--   Answer    accepted, refused: the two kinds of answer
+--   Call      tested: tests 4 to 8 of a list. result: the tree that a list leads to. judged: tests 1 to 9. bulk:
+--             tests 1 to 10. answer, held: what a call hands back, and what the new columns then hold
+--   Cases     cases A to L of the worked plan
+--
+-- Names of the code's own types (Record, Before, Verdict, Answer) stand under `declared`.
+pub mod Tree
+pub mod Table
+pub mod Change
+pub mod Open
+pub mod Paint
+pub mod Records
+pub mod Answer
+pub mod Call
+pub mod Cases

@@ -10,21 +10,13 @@ use lib.Dec.{T, eqb→eq}
 use lib.ListN.{getD}
 use Rattle.plan.specs.Tree.{Forest, none, tree, count, sizes, _⊕_}
 use Rattle.plan.specs.Change.{Act, delete, rename, replace, Change, insert, act, instead, meaning, removes, lost, vain, vainBy, kept}
-use Rattle.plan.proofs.Kit.{T-and, T-or, true-of, false-of, cond-elim, All, all-append, all-map}
+use Rattle.plan.proofs.Kit.{and-false, or-true, true-of, false-of, cond-elim, All, all-map}
 use Rattle.plan.proofs.Standing.{kids, past, sort-kids, sort-past, location, row, mine, side, made, allMade, valid, before, told, lost-told, mine-told}
 use Rattle.plan.proofs.Single.{made-insert, made-act}
 use Rattle.plan.proofs.Cut.{Sorted, Fit, end, Kid, Past, cut, Shape, plain, acts, inserts, shape-of, in-kid}
 use Rattle.plan.proofs.Pass.{made-rest, made-both}
 use Rattle.plan.proofs.Faithful.{made-meaning}
 use Rattle.plan.proofs.Rows.{below-fits, size-at, column-kids, column-rest, is-size, sizeColumn}
-
-and-false : (x : Bool) {y : Bool} → y ≡ false → (x && y) ≡ false
-and-false true e = e
-and-false false e = refl
-
-or-true : (x y : Bool) → y ≡ true → (x || y) ≡ true
-or-true true y e = refl
-or-true false y e = e
 
 module _ {A : Type 0} (t : Forest A) where
   -- ---- lists of kept changes
@@ -71,14 +63,14 @@ module _ {A : Type 0} (t : Forest A) where
       (all-map (λ y. vainBy t seen y ≡ true) (λ y. vainBy t (x ∷ seen) y ≡ true)
       (λ y e. or-true (vain t x y) (vainBy t seen y) e) xs (v .1)))
 
-  all-kept : (P : Change A → Type 0) (seen xs : List (Change A)) → All P xs → All P (kept t seen xs)
+  pub all-kept : (P : Change A → Type 0) (seen xs : List (Change A)) → All P xs → All P (kept t seen xs)
   unfolding kept
   all-kept P seen [] v = tt
   all-kept P seen (x ∷ xs) v =
       let w = all-kept P (x ∷ seen) xs (v .1) in
       cond-elim (All P) (vainBy t seen x) _ _ (λ e. w) (λ e. (v .0, w))
 
-  sorted-kept : (seen xs : List (Change A)) → Sorted xs → Sorted (kept t seen xs)
+  pub sorted-kept : (seen xs : List (Change A)) → Sorted xs → Sorted (kept t seen xs)
   unfolding kept
   sorted-kept seen [] o = tt
   sorted-kept seen (x ∷ xs) o =
@@ -86,15 +78,15 @@ module _ {A : Type 0} (t : Forest A) where
       cond-elim Sorted (vainBy t seen x) _ _ (λ e. w) (λ e. (all-kept (λ d. T (before x d)) (x ∷ seen) xs (o .0), w))
 
   -- ---- over a forest f of t, whose first row is b
-  abbrev Rows : ℕ → Forest A → Type 0
+  abbrev pub Rows : ℕ → Forest A → Type 0
   Rows b f = (x : ℕ) → x < count f → getD (sizes t) (b + x) 0 ≡ getD (sizes f) x 0
 
-  kid-rows : (b : ℕ) (a : A) (k r : Forest A) → Rows b (tree a k r) → Rows (suc b) k
+  pub kid-rows : (b : ℕ) (a : A) (k r : Forest A) → Rows b (tree a k r) → Rows (suc b) k
   kid-rows b a k r h x l =
       let e : suc b + x ≡ b + suc x = omega arith in
       rw e (h (suc x) (omega arith)) ∙ column-kids 0 sizeColumn _ is-size 0 a k r x l
 
-  rest-rows : (b : ℕ) (a : A) (k r : Forest A) → Rows b (tree a k r) → Rows (suc b + count k) r
+  pub rest-rows : (b : ℕ) (a : A) (k r : Forest A) → Rows b (tree a k r) → Rows (suc b + count k) r
   rest-rows b a k r h x l =
       let e : suc b + count k + x ≡ b + suc (count k + x) = omega arith in
       let w : count k + x - count k ≡ x = omega arith in
@@ -104,7 +96,7 @@ module _ {A : Type 0} (t : Forest A) where
   Trims : (b u : ℕ) → Forest A → Type 0
   Trims b u f = (cs : List (Change A)) → Fit b u f cs → allMade b u (kept t [] cs) f ≡ allMade b u cs f
 
-  kept-insert : (p q : ℕ) (s : Forest A) (cs : List (Change A))
+  pub kept-insert : (p q : ℕ) (s : Forest A) (cs : List (Change A))
       → kept t [] (insert p q s ∷ cs) ≡ insert p q s ∷ kept t [] cs
   unfolding kept
   kept-insert p q s cs = ap (λ (l : List (Change A)). insert p q s ∷ l) (forget [] (insert p q s ∷ []) cs (free cs))
@@ -126,12 +118,12 @@ module _ {A : Type 0} (t : Forest A) where
     e = end b u k r
 
     -- a change past the tree is lost with none of the tree's rows
-    past-free : (d : Change A) (p m : ℕ) → Past b u k r d → b ≤ p → m ≤ e → lost p m d ≡ false
+    pub past-free : (d : Change A) (p m : ℕ) → Past b u k r d → b ≤ p → m ≤ e → lost p m d ≡ false
     past-free d p m w l n =
         false-of (lost p m d)
         (λ v. let z = lost-told p m d v in omega (arith, told b u e d past h (w .0) (omega arith)))
 
-    vain-past : (c d : Change A) → Kid b u k r c → Past b u k r d → vain t c d ≡ false
+    pub vain-past : (c d : Change A) → Kid b u k r c → Past b u k r d → vain t c d ≡ false
     vain-past (insert p q s) d v w = refl
     vain-past (act p x) d v w =
         let i = in-kid b u k r h (act p x) v in
@@ -144,7 +136,7 @@ module _ {A : Type 0} (t : Forest A) where
         and-false (removes x) (past-free d p (p + getD (sizes t) p 0) w (omega (arith, i .0)) m)
 
     -- the tree's own change, at row b
-    own-end : (p : ℕ) → p ≡ b → p + getD (sizes t) p 0 ≡ e
+    pub own-end : (p : ℕ) → p ≡ b → p + getD (sizes t) p 0 ≡ e
     own-end p w =
         let z : getD (sizes t) (b + 0) 0 ≡ suc (count k) = rows 0 (omega arith) in
         let v : p ≡ b + 0 = omega arith in
@@ -173,6 +165,36 @@ module _ {A : Type 0} (t : Forest A) where
     parts-kept seen K R f v w =
         kept-append seen K R ∙ ap (λ (l : List (Change A)). kept t seen K ++ l) (rest-kept seen K R f v w)
 
+    module _ (K R : List (Change A)) (vk : All (Kid b u k r) K) (vr : All (Past b u k r) R) where
+      -- what is kept of the changes in the tree and past it
+      pub kept-parts : kept t [] (K ++ R) ≡ kept t [] K ++ kept t [] R
+      kept-parts = parts-kept [] K R (λ d y. refl) vk vr
+
+      -- and behind a change of the tree itself: what goes takes the changes among its children along
+      abbrev pub kids-kept : Act A → List (Change A)
+      kids-kept delete = []
+      kids-kept (rename n) = kept t [] K
+      kids-kept (replace s) = []
+
+      gone-kept : (p : ℕ) (x : Act A) → p ≡ b → removes x ≡ true → kept t (act p x ∷ []) K ≡ []
+      gone-kept p x w y =
+          all-vain (act p x ∷ []) K
+          (all-map (Kid b u k r) (λ d. vainBy t (act p x ∷ []) d ≡ true) (λ d v. rw (own-vain p x d w y v)) K vk)
+
+      behind-own : (p : ℕ) (x : Act A) → p ≡ b → kept t (act p x ∷ []) K ≡ kids-kept x
+      behind-own p delete w = gone-kept p delete w refl
+      behind-own p (rename n) w =
+          forget [] (act p (rename n) ∷ []) K
+          (all-map (Kid b u k r) (Free (act p (rename n) ∷ [])) (λ d v. refl) K vk)
+      behind-own p (replace s) w = gone-kept p (replace s) w refl
+
+      pub kept-own : (p : ℕ) (x : Act A) → p ≡ b → kept t [] (act p x ∷ K ++ R) ≡ act p x ∷ kids-kept x ++ kept t [] R
+      unfolding kept
+      kept-own p x w =
+          ap (λ (l : List (Change A)). act p x ∷ l)
+          (parts-kept (act p x ∷ []) K R (λ d y. rw (own-free p x d w y)) vk vr
+          ∙ ap (λ (l : List (Change A)). l ++ kept t [] R) (behind-own p x w))
+
     -- two lists make the same of the tree
     abbrev Same : List (Change A) → List (Change A) → Type 0
     Same l m = allMade b u l (tree a k r) ≡ allMade b u m (tree a k r)
@@ -192,7 +214,7 @@ module _ {A : Type 0} (t : Forest A) where
           (all-kept (Past b u k r) [] R vr))
 
       plain-trim : Same (kept t [] (K ++ R)) (K ++ R)
-      plain-trim = rw (parts-kept [] K R (λ d y. refl) vk vr) both-trim
+      plain-trim = rw (kept-parts K R vk vr) both-trim
 
       -- what goes takes along whatever was made of its children
       same-instead : (x : Act A) (f g : Forest A) → removes x ≡ true → instead x a f ≡ instead x a g
@@ -200,18 +222,10 @@ module _ {A : Type 0} (t : Forest A) where
       same-instead (rename n) f g w = let z : _≡_ {A = ℕ} 0 1 = cc in absurd (omega arith)
       same-instead (replace s) f g w = refl
 
-      after-own : (p : ℕ) (x : Act A) → p ≡ b → kept t (act p x ∷ []) (K ++ R) ≡ kept t (act p x ∷ []) K ++ kept t [] R
-      after-own p x w = parts-kept (act p x ∷ []) K R (λ d y. rw (own-free p x d w y)) vk vr
-
-      gone-trim : (p : ℕ) (x : Act A) → mine b u (act p x) ≡ true → p ≡ b → removes x ≡ true
-          → Same (act p x ∷ kept t (act p x ∷ []) (K ++ R)) (act p x ∷ K ++ R)
-      gone-trim p x m w y =
-          let Vain : Change A → Type 0 = λ d. vainBy t (act p x ∷ []) d ≡ true in
-          let none-left : kept t (act p x ∷ []) K ≡ [] =
-          all-vain (act p x ∷ []) K (all-map (Kid b u k r) Vain (λ d v. rw (own-vain p x d w y v)) K vk) in
+      gone-trim : (p : ℕ) (x : Act A) → mine b u (act p x) ≡ true → removes x ≡ true
+          → Same (act p x ∷ kept t [] R) (act p x ∷ K ++ R)
+      gone-trim p x m y =
           rw (
-            after-own p x w,
-            none-left,
             made-both b u h k r a K R vk ok vr,
             made-rest b u h k r a r (kept t [] R) (all-kept (Past b u k r) [] R vr),
             made-act b u p x a k (allMade e u (kept t [] R) r) m,
@@ -220,32 +234,23 @@ module _ {A : Type 0} (t : Forest A) where
             same-instead x k (allMade (suc b) (suc b) K k) y,
           )
 
-      stay-trim : (p : ℕ) (n : A → A) → p ≡ b
-          → let c = act p (rename n) in Same (c ∷ kept t (c ∷ []) (K ++ R)) (c ∷ K ++ R)
-      stay-trim p n w =
-          let c : Change A = act p (rename n) in
-          let all-left : kept t (c ∷ []) K ≡ kept t [] K =
-          forget [] (c ∷ []) K (all-map (Kid b u k r) (Free (c ∷ [])) (λ d v. refl) K vk) in
-          rw (after-own p (rename n) w, all-left, both-trim)
-
-      own-trim : (p : ℕ) (x : Act A) → mine b u (act p x) ≡ true → p ≡ b
-          → Same (act p x ∷ kept t (act p x ∷ []) (K ++ R)) (act p x ∷ K ++ R)
-      own-trim p delete m w = gone-trim p delete m w refl
-      own-trim p (rename n) m w = stay-trim p n w
-      own-trim p (replace s) m w = gone-trim p (replace s) m w refl
+      own-trim : (p : ℕ) (x : Act A) → mine b u (act p x) ≡ true
+          → Same (act p x ∷ kids-kept K R vk vr x ++ kept t [] R) (act p x ∷ K ++ R)
+      own-trim p delete m = gone-trim p delete m refl
+      own-trim p (rename n) m = ap (made b u (act p (rename n))) both-trim
+      own-trim p (replace s) m = gone-trim p (replace s) m refl
 
     shape-trim : Trims (suc b) (suc b) k → Trims e u r → {cs : List (Change A)} → Shape b u k r h cs
         → Same (kept t [] cs) cs
-    unfolding kept
     shape-trim tk tr (plain cs v o) =
         let q = cut b u k r h cs v o in
         subst (λ (l : List (Change A)). Same (kept t [] l) l) (sym (q .whole))
         (plain-trim tk tr (q .K) (q .R) (q .kidsK) (q .sortedK) (q .pastR) (q .sortedR))
     shape-trim tk tr (acts p x cs m v o) =
         let q = cut b u k r h cs v o in
+        let w = own-trim tk tr (q .K) (q .R) (q .kidsK) (q .sortedK) (q .pastR) (q .sortedR) p x in
         subst (λ (l : List (Change A)). Same (kept t [] (act p x ∷ l)) (act p x ∷ l)) (sym (q .whole))
-        (own-trim tk tr (q .K) (q .R) (q .kidsK) (q .sortedK) (q .pastR) (q .sortedR) p x
-        (true-of (mine b u (act p x)) m) (eqb→eq p b m))
+        (rw (kept-own (q .K) (q .R) (q .kidsK) (q .pastR) p x (eqb→eq p b m)) (w (true-of (mine b u (act p x)) m)))
     shape-trim tk tr (inserts p q s cs m y) =
         ap (λ (l : List (Change A)). allMade b u l (tree a k r)) (kept-insert p q s cs)
         ∙ ap (made b u (insert p q s)) (shape-trim tk tr y)

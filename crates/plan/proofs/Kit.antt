@@ -45,6 +45,14 @@ pub or-right : (x y : Bool) → T y → T (x || y)
 or-right true y h = tt
 or-right false y h = h
 
+pub and-false : (x : Bool) {y : Bool} → y ≡ false → (x && y) ≡ false
+and-false true e = e
+and-false false e = refl
+
+pub or-true : (x y : Bool) → y ≡ true → (x || y) ≡ true
+or-true true y e = refl
+or-true false y e = e
+
 pub eq→eqb : (m n : ℕ) → m ≡ n → T (eqb m n)
 eq→eqb m n h = rw h (eqb-refl n)
 

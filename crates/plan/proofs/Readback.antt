@@ -5,7 +5,7 @@ use Prim.Native.Nat.{ℕ, zero, suc, _+_, _-_, _≤_, _<_}
 use native.Mathlib.Omega.{arith}
 use mathlib.Core.Path.{_≡_, refl, sym, ap, _∙_}
 use mathlib.Core.List.{List, [], _∷_, _++_, map, append-assoc, append-nil}
-use lib.ListN.{length}
+use lib.ListN.{length, take}
 use Rattle.plan.specs.Tree.{Forest, none, tree, count, labels, sizes, _⊕_, relabel}
 use Rattle.plan.specs.Table.{first, behind, spelled}
 use Rattle.plan.proofs.Columns.{count-relabel, beside-none}
@@ -62,7 +62,27 @@ module _ {A : Type 0} where
   pub decide : (f g : Forest A) → sizes f ≡ sizes g → labels f ≡ labels g → f ≡ g
   decide f g s l = sym (read-back f) ∙ (rw (s, l) (read-back g))
 
-  -- as many rows as the shorter of the two columns has
+  -- the labels that are read
+  first-behind : (f : Forest A) (n : ℕ) → labels (first f n) ++ labels (behind f n) ≡ labels f
+  unfolding first behind
+  first-behind none n = refl
+  first-behind (tree a k r) zero = refl
+  first-behind (tree a k r) (suc n) =
+      rw (
+        append-assoc (labels k) (labels (first r (n - count k))) (labels (behind r (n - count k))),
+        first-behind r
+            (n - count k),
+      )
+
+  pub labels-spelled : (ss : List ℕ) (ls : List A) → labels (spelled ss ls) ≡ take (length ss) ls
+  unfolding spelled
+  labels-spelled [] ls = refl
+  labels-spelled (s ∷ ss) [] = refl
+  labels-spelled (s ∷ ss) (a ∷ ls) =
+      let f : Forest A = spelled ss ls in
+      ap (λ (xs : List A). a ∷ xs) (first-behind f (s - 1) ∙ labels-spelled ss ls)
+
+  -- as many rows as the columns have
   count-split : (f : Forest A) (n : ℕ) → count (first f n) + count (behind f n) ≡ count f
   unfolding first behind
   count-split none n = refl

@@ -8,6 +8,7 @@ use mathlib.Core.Bool.{Bool, true, false, not, _&&_, _||_}
 use mathlib.Core.List.{List, [], _∷_}
 use lib.Dec.{T, leb, ltb, eqb, leb→le, ltb→lt, lt→ltb, le→leb, nltb→le, eqb→eq, T-not}
 use Rattle.plan.specs.Tree.{Forest, none, tree, count, _⊕_}
+pub use Rattle.plan.specs.Change.{location}
 use Rattle.plan.specs.Change.{Act, Change, insert, act, instead, lost}
 use Rattle.plan.proofs.Kit.{T-and, T-or, not-and, eq→eqb, by-place}
 
@@ -62,11 +63,7 @@ sort-elim P false true f g h = g tt
 sort-elim P false false f g h = h tt tt
 
 module _ {A : Type 0} where
-  -- a change's location, and the row that it names: an insert's parent, any other's own
-  abbrev pub location : Change A → ℕ
-  location (insert p q s) = p
-  location (act p x) = p
-
+  -- the row that a change names: an insert's parent, any other's own
   abbrev pub row : Change A → ℕ
   row (insert p q s) = q
   row (act p x) = p

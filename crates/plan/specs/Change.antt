@@ -59,6 +59,11 @@ module _ {A : Type 0} where
   meaning [] t = t
   meaning (c ∷ cs) t = single c (meaning cs t)
 
+  -- where it is made
+  abbrev pub location : Change A → ℕ
+  location (insert p q s) = p
+  location (act p x) = p
+
   -- does it take the old rows away?
   abbrev pub removes : Act A → Bool
   removes delete = true

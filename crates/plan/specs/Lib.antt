@@ -15,6 +15,8 @@
 --   Answer    accepted, refused: the two kinds of answer
 --   Call      tested: tests 4 to 8 of a list. result: the tree that a list leads to. judged: tests 1 to 9. bulk:
 --             tests 1 to 10. answer, held: what a call hands back, and what the new columns then hold
+--   Mapping   fate: what became of an old row. originAt: which row a new one was. asked: the tests of both mappings.
+--             come, left, taken: the paper's formula for the new number of an old row
 --   Cases     cases A to L of the worked plan
 --
 -- Names of the code's own types (Record, Before, Verdict, Answer) stand under `declared`.
@@ -26,4 +28,5 @@ pub mod Paint
 pub mod Records
 pub mod Answer
 pub mod Call
+pub mod Mapping
 pub mod Cases

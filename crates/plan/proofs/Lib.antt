@@ -31,4 +31,5 @@ pub mod Merge
 pub mod Mapping
 pub mod Origins
 pub mod Survivors
+pub mod Following
 pub mod Cases

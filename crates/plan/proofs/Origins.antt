@@ -42,7 +42,7 @@ module _ (o : ℕ → Origin) where
   painted-rows i [] = refl
   painted-rows i (v ∷ vs) = ap (λ (os : List Origin). o i ∷ os) (painted-rows (suc i) vs)
 
-  take-rows : (m i n : ℕ) → m ≤ n → take m (rowsOf o i n) ≡ rowsOf o i m
+  pub take-rows : (m i n : ℕ) → m ≤ n → take m (rowsOf o i n) ≡ rowsOf o i m
   take-rows zero i n h = refl
   take-rows (suc m) i zero h = absurd (omega arith)
   take-rows (suc m) i (suc n) h = ap (λ (os : List Origin). o i ∷ os) (take-rows m (suc i) n (omega arith))
@@ -59,7 +59,7 @@ module _ (o : ℕ → Origin) where
       rw (e, w) (drop-rows q (suc i) n)
 
 -- the origins of the tree that a table spells
-plan-origins : (o : ℕ → Origin) (t : Table)
+pub plan-origins : (o : ℕ → Origin) (t : Table)
     → origins (plan o t) ≡ take (length (t .size)) (rowsOf o 0 (length (t .value)))
 unfolding plan
 plan-origins o t =

@@ -1,10 +1,10 @@
 -- Laws of the columns of a forest: how long they are, of one forest beside another, with other labels, from a row on.
 -- Assumes nothing.
-use Prim.Native.Nat.{ℕ, zero, suc, _+_, _-_, _≤_, _<_}
+use Prim.Native.Nat.{ℕ, suc, _+_}
 use native.Mathlib.Omega.{arith}
 use native.Mathlib.Nat.{add-zero}
-use mathlib.Core.Path.{_≡_, refl, sym, ap, _∙_}
-use mathlib.Core.List.{List, [], _∷_, _++_, map, map-append, append-assoc}
+use mathlib.Core.Path.{_≡_, refl, ap, _∙_}
+use mathlib.Core.List.{_++_, map, map-append, append-assoc}
 use lib.ListN.{length, length-append}
 use Rattle.plan.specs.Tree.{Forest, none, tree, count, labels, sizes, dists, _⊕_, relabel}
 

@@ -1,16 +1,16 @@
 -- A list that fits a tree falls into parts: inserts in front of the tree, perhaps a change of the tree itself,
 -- changes among its children, changes past it.
 -- Assumes nothing.
-use Prim.Native.Nat.{ℕ, zero, suc, _+_, _≤_, _<_}
+use Prim.Native.Nat.{ℕ, suc, _+_, _≤_}
 use native.Mathlib.Omega.{arith}
 use mathlib.Core.Path.{_≡_, refl, ap}
-use mathlib.Core.Bool.{Bool, true, false}
+use mathlib.Core.Bool.{true}
 use mathlib.Core.List.{List, [], _∷_, _++_}
 use lib.Dec.{T}
-use Rattle.plan.specs.Tree.{Forest, none, tree, count}
+use Rattle.plan.specs.Tree.{Forest, tree, count}
 use Rattle.plan.specs.Change.{Act, Change, insert, act, lost}
 use Rattle.plan.proofs.Kit.{All, all-left, all-map, all-map₂}
-use Rattle.plan.proofs.Standing.{Side, here, kids, past, by, sort-here, location, row, mine, side, valid, before, Told, told, mine-told, In, inside, Ord, ord}
+use Rattle.plan.proofs.Standing.{Side, here, kids, past, by, sort-here, row, mine, side, valid, before, told, mine-told, In, inside, ord}
 
 -- each change may stand before all later ones
 abbrev pub Sorted : {A : Type 0} → List (Change A) → Type 0

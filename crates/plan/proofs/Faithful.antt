@@ -1,20 +1,20 @@
 -- A change made wherever it belongs is the single change at its row, and each change of a list that fits still has its
 -- place when its turn comes. So the pass gives what the list means.
 -- Assumes nothing.
-use Prim.Native.Nat.{ℕ, zero, suc, _+_, _-_, _≤_, _<_}
+use Prim.Native.Nat.{ℕ, zero, suc, _+_, _-_, _≤_}
 use native.Mathlib.Omega.{arith}
 use mathlib.Core.Path.{_≡_, refl, ap, _∙_}
 use mathlib.Core.Bool.{Bool, true, false, cond}
-use mathlib.Core.List.{List, [], _∷_, _++_}
+use mathlib.Core.List.{List, [], _∷_}
 use lib.Dec.{T, ltb}
 use borrow.Author.Tests.{eq-eqb, lt-ltb, le-ltb, ltb-true, ltb-false}
-use Rattle.plan.specs.Tree.{Forest, none, tree, count, _⊕_, at}
+use Rattle.plan.specs.Tree.{Forest, none, tree, count, at}
 use Rattle.plan.specs.Change.{Act, Change, insert, act, put, acted, joined, single, meaning}
 use Rattle.plan.proofs.Kit.{true-of, All}
 use Rattle.plan.proofs.Columns.{beside-none}
-use Rattle.plan.proofs.Standing.{Side, here, kids, past, by, by-elim, location, row, mine, side, front, made, allMade, valid, before, told, mine-told, ord}
+use Rattle.plan.proofs.Standing.{Side, here, kids, past, by, by-elim, row, mine, side, front, made, allMade, valid, before, told, mine-told, ord}
 use Rattle.plan.proofs.Single.{keep, made-insert, made-kids, made-past}
-use Rattle.plan.proofs.Cut.{Fit, end, Kid, Past, Rest, kid, later, Class, top, deep, class, past-past, kid-rest, act-rest, in-kid, in-past}
+use Rattle.plan.proofs.Cut.{Fit, Kid, Past, Rest, kid, later, Class, top, deep, class, past-past, kid-rest, act-rest, in-kid, in-past}
 use Rattle.plan.proofs.Pass.{pass, pass-whole, stay}
 
 module _ {A : Type 0} where

@@ -3,9 +3,8 @@
 -- Assumes nothing.
 use Prim.Native.Nat.{ℕ, zero, suc, _+_, _-_, _≤_, _<_}
 use native.Mathlib.Omega.{arith}
-use native.Mathlib.Decide.{decLe}
-use mathlib.Core.Path.{_≡_, refl, sym, ap, _∙_, subst}
-use mathlib.Core.Bool.{Bool, true, false, not, cond, _&&_, _||_}
+use mathlib.Core.Path.{_≡_, sym, _∙_, subst}
+use mathlib.Core.Bool.{true, false, not, _&&_, _||_}
 use mathlib.Core.List.{List, [], _∷_}
 use borrow.Author.Tests.{eqb-true}
 use lib.Dec.{T, leb, ltb, eqb, leb→le, le→leb, ltb→lt, lt→ltb, eqb→eq, T-not}
@@ -13,16 +12,15 @@ use Rattle.plan.specs.declared.Record.{Record}
 use Rattle.plan.specs.declared.Before.{Before}
 use Rattle.plan.specs.declared.Before.the-variants.{Nothing, After}
 use Rattle.plan.specs.Tree.{Forest, none, tree, count, from, children}
-use Rattle.plan.specs.Table.{Table, run}
-use Rattle.plan.specs.Change.{Act, delete, rename, replace, Change, insert, act, opens, openPlace, removes}
-use Rattle.plan.specs.Paint.{Painted, new, plan}
+use Rattle.plan.specs.Table.{Table}
+use Rattle.plan.specs.Change.{Act, delete, Change, insert, act, opens, openPlace, removes}
 use Rattle.plan.specs.Records.{isDelete, isInsert, isRename, change, changes, located, follows, alone}
 use Rattle.plan.proofs.Kit.{T-and, and-T, T-or, T-of, true-of, false-of, or-left, or-right, eq→eqb, by-side, by-place, cond-elim, All, all-map}
-use Rattle.plan.proofs.Standing.{here, kids, past, only-kids, only-past, location, row, mine, side, valid, before, told, mine-told}
-use Rattle.plan.proofs.Cut.{Sorted, Fit, kid, later, top, deep, class, Class, in-past}
+use Rattle.plan.proofs.Standing.{here, kids, past, only-kids, only-past, location, side, valid, before, told}
+use Rattle.plan.proofs.Cut.{Sorted, Fit}
 use Rattle.plan.proofs.Faithful.{insert-valid, act-valid, kid-valid, past-valid}
 use Rattle.plan.proofs.Rows.{below, from-kids, from-rest}
-use Rattle.plan.proofs.OpenPlaces.{opens-later, later-opens}
+use Rattle.plan.proofs.OpenPlaces.{later-opens}
 
 -- ---- test 5: a place
 module _ {A : Type 0} where

@@ -2,20 +2,20 @@
 -- Assumes nothing.
 use Prim.Native.Nat.{ℕ, zero, suc, _+_, _-_, _≤_, _<_}
 use native.Mathlib.Omega.{arith}
-use mathlib.Core.Path.{_≡_, refl, sym, ap, _∙_, subst}
-use mathlib.Core.Bool.{Bool, true, false, cond, _&&_}
+use mathlib.Core.Path.{_≡_, sym, ap, _∙_}
+use mathlib.Core.Bool.{true, false}
 use mathlib.Core.List.{List, [], _∷_, _++_, append-assoc}
 use lib.Dec.{T, eqb, eqb→eq}
 use lib.ListN.{length, take, drop, getD, length-drop}
 use lib.Seq.{length-take-le}
-use Rattle.plan.specs.Tree.{Forest, count}
-use Rattle.plan.specs.Table.{Table, table, even, run}
-use Rattle.plan.specs.Change.{Act, delete, rename, replace, Change, insert, act, location, lost}
+use Rattle.plan.specs.Tree.{Forest}
+use Rattle.plan.specs.Table.{Table, even, run}
+use Rattle.plan.specs.Change.{rename, Change, act, location, lost}
 use Rattle.plan.specs.Paint.{Origin, old, new, Painted, plan, origins}
 use Rattle.plan.specs.Mapping.{originAt}
-use Rattle.plan.proofs.Kit.{T-and, true-of, by-side, All}
+use Rattle.plan.proofs.Kit.{T-and}
 use Rattle.plan.proofs.Trimmed.{gone-from, gone-to, trimmed}
-use Rattle.plan.proofs.Merge.{onward, Chain, not-back}
+use Rattle.plan.proofs.Merge.{onward, Chain}
 use Rattle.plan.proofs.Mapping.{rowsOf, arrives, track}
 use Rattle.plan.proofs.Origins.{plan-origins, take-rows}
 

@@ -1,18 +1,18 @@
 -- What is vain may be dropped: the kept changes of a list that fits mean what the whole list means.
 -- A delete or replace takes what was made of the children with it, so the changes among them don't count.
 -- Assumes nothing.
-use Prim.Native.Nat.{ℕ, zero, suc, _+_, _-_, _≤_, _<_}
+use Prim.Native.Nat.{ℕ, suc, _+_, _-_, _≤_, _<_}
 use native.Mathlib.Omega.{arith}
 use mathlib.Core.Path.{_≡_, refl, sym, ap, _∙_, subst}
-use mathlib.Core.Bool.{Bool, true, false, cond, _&&_, _||_}
+use mathlib.Core.Bool.{Bool, true, false, cond}
 use mathlib.Core.List.{List, [], _∷_, _++_}
 use lib.Dec.{T, eqb→eq}
 use lib.ListN.{getD}
-use Rattle.plan.specs.Tree.{Forest, none, tree, count, sizes, _⊕_}
+use Rattle.plan.specs.Tree.{Forest, none, tree, count, sizes}
 use Rattle.plan.specs.Change.{Act, delete, rename, replace, Change, insert, act, instead, meaning, removes, lost, vain, vainBy, kept}
 use Rattle.plan.proofs.Kit.{and-false, or-true, true-of, false-of, cond-elim, All, all-map}
-use Rattle.plan.proofs.Standing.{kids, past, sort-kids, sort-past, location, row, mine, side, made, allMade, valid, before, told, lost-told, mine-told}
-use Rattle.plan.proofs.Single.{made-insert, made-act}
+use Rattle.plan.proofs.Standing.{past, sort-kids, mine, made, allMade, valid, before, told, lost-told}
+use Rattle.plan.proofs.Single.{made-act}
 use Rattle.plan.proofs.Cut.{Sorted, Fit, end, Kid, Past, cut, Shape, plain, acts, inserts, shape-of, in-kid}
 use Rattle.plan.proofs.Pass.{made-rest, made-both}
 use Rattle.plan.proofs.Faithful.{made-meaning}

@@ -13,8 +13,13 @@
 pub mod Kit
 pub mod Columns
 pub mod Rows
+pub mod Verdicts
 pub mod Readback
 pub mod Sound
+pub mod Cells
+pub mod Kin
+pub mod Tests
+pub mod Axes
 pub mod OpenPlaces
 pub mod Standing
 pub mod Single
@@ -23,6 +28,7 @@ pub mod Pass
 pub mod Faithful
 pub mod Fits
 pub mod Tested
+pub mod Judged
 pub mod Kept
 pub mod Trimmed
 pub mod OnePass

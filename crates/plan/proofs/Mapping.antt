@@ -3,28 +3,27 @@
 -- Assumes nothing.
 use Prim.Native.Nat.{ℕ, zero, suc, _+_, _-_, _≤_, _<_}
 use native.Mathlib.Omega.{arith}
-use mathlib.Core.Path.{_≡_, refl, sym, ap, _∙_, subst}
-use mathlib.Core.Bool.{Bool, true, false, cond, _&&_, _||_}
+use mathlib.Core.Path.{_≡_, refl, sym, ap, _∙_}
+use mathlib.Core.Bool.{true, false, cond}
 use mathlib.Core.Logic.{_⊎_, inl, inr}
-use mathlib.Core.List.{List, [], _∷_, _++_, map, map-append, append-assoc, append-nil}
-use lib.Dec.{T, leb, ltb, eqb}
-use lib.ListN.{length, take, drop, getD, length-append, length-map}
+use mathlib.Core.List.{List, [], _∷_, _++_, append-nil}
+use lib.Dec.{leb, ltb}
+use lib.ListN.{length, length-map}
 use borrow.Author.Tests.{eq-eqb, ne-eqb, le-leb, lt-leb, lt-ltb, le-ltb}
-use Rattle.plan.specs.Tree.{Forest, none, tree, count, labels, sizes, _⊕_}
-use Rattle.plan.specs.Table.{Table, even, first, behind, spelled}
-use Rattle.plan.specs.Change.{Act, delete, rename, replace, Change, insert, act, location, removes}
-use Rattle.plan.specs.Paint.{Origin, old, new, Painted, painted, plan, origins}
+use Rattle.plan.specs.Tree.{Forest, count, labels}
+use Rattle.plan.specs.Change.{delete, rename, replace, Change, insert, act, location}
+use Rattle.plan.specs.Paint.{Origin, old, new, Painted, origins}
 use Rattle.plan.specs.Mapping.{Fate, row, gone, fate, comes, goes, takes, come, left, taken}
 use Rattle.plan.proofs.Kit.{and-false, or-true, by-side, All}
 use Rattle.plan.proofs.Columns.{length-labels}
-use Rattle.plan.proofs.Merge.{part, brings, onward, merged, Chain, chain-most, not-back}
+use Rattle.plan.proofs.Merge.{onward, Chain, not-back}
 
 -- m rows painted by o, from row i on
 abbrev pub rowsOf : (ℕ → Origin) → (i m : ℕ) → List Origin
 rowsOf o i zero = []
 rowsOf o i (suc m) = o i ∷ rowsOf o (suc i) m
 
-length-rows : (o : ℕ → Origin) (i m : ℕ) → length (rowsOf o i m) ≡ m
+pub length-rows : (o : ℕ → Origin) (i m : ℕ) → length (rowsOf o i m) ≡ m
 length-rows o i zero = refl
 length-rows o i (suc m) = ap suc (length-rows o (suc i) m)
 
@@ -38,14 +37,14 @@ AllNew (old x ∷ os) = ⊥
 AllNew (new k i ∷ os) = AllNew os
 
 -- ---- the fate of a row among origins
-fate-new : (os rest : List Origin) (j r : ℕ) → AllNew os → fate (os ++ rest) j r ≡ fate rest (j + length os) r
+pub fate-new : (os rest : List Origin) (j r : ℕ) → AllNew os → fate (os ++ rest) j r ≡ fate rest (j + length os) r
 unfolding fate
 fate-new [] rest j r v = ap (λ (z : ℕ). fate rest z r) (omega arith)
 fate-new (old x ∷ os) rest j r v = absurd v
 fate-new (new k i ∷ os) rest j r v = fate-new os rest (suc j) r v ∙ ap (λ (z : ℕ). fate rest z r) (omega arith)
 
 -- among old rows of which it is none
-fate-other : (q m : ℕ) (rest : List Origin) (j r : ℕ) → ((x : ℕ) → q ≤ x → x < q + m → x ≡ r → ⊥)
+pub fate-other : (q m : ℕ) (rest : List Origin) (j r : ℕ) → ((x : ℕ) → q ≤ x → x < q + m → x ≡ r → ⊥)
     → fate (rowsOf old q m ++ rest) j r ≡ fate rest (j + m) r
 unfolding fate
 fate-other q zero rest j r f = ap (λ (z : ℕ). fate rest z r) (omega arith)
@@ -55,7 +54,7 @@ fate-other q (suc m) rest j r f =
     ∙ ap (λ (z : ℕ). fate rest z r) (omega arith))
 
 -- among them
-fate-among : (q m : ℕ) (rest : List Origin) (j r : ℕ) → q ≤ r → r < q + m
+pub fate-among : (q m : ℕ) (rest : List Origin) (j r : ℕ) → q ≤ r → r < q + m
     → fate (rowsOf old q m ++ rest) j r ≡ row (j + (r - q))
 unfolding fate
 fate-among q zero rest j r h k = absurd (omega arith)
@@ -101,7 +100,7 @@ module _ (t : Forest Painted) where
 
   -- ---- the formula
   -- a row that was passed is gone
-  fate-passed : (q n : ℕ) (cs : List (Change Painted)) (j r : ℕ) → Chain t q n cs → All Honest cs → r < q
+  pub fate-passed : (q n : ℕ) (cs : List (Change Painted)) (j r : ℕ) → Chain t q n cs → All Honest cs → r < q
       → fate (track q n cs) j r ≡ gone
   unfolding fate
   fate-passed q n [] j r v w h =

@@ -1,10 +1,10 @@
 -- The labels after a list are a merge: the old labels in order, with the rows cut out that kept changes remove, and the
 -- runs put in that kept changes bring. No tree has to be looked at, so the whole column is written in one go.
 -- Assumes nothing.
-use Prim.Native.Nat.{ℕ, zero, suc, _+_, _-_, _≤_, _<_}
+use Prim.Native.Nat.{ℕ, suc, _+_, _-_, _≤_}
 use native.Mathlib.Omega.{arith}
 use mathlib.Core.Path.{_≡_, refl, sym, ap, _∙_, subst}
-use mathlib.Core.Bool.{Bool, true, false}
+use mathlib.Core.Bool.{true}
 use mathlib.Core.List.{List, [], _∷_, _++_, map, append-assoc, append-nil}
 use lib.Dec.{T, eqb→eq}
 use lib.ListN.{length, take, drop, getD}
@@ -60,7 +60,7 @@ module _ {A : Type 0} (t : Forest A) where
   Chain r n [] = r ≤ n
   Chain r n (c ∷ cs) = (r ≤ location c) × Chain (onward c) n cs
 
-  chain-sooner : (q r n : ℕ) (cs : List (Change A)) → q ≤ r → Chain r n cs → Chain q n cs
+  pub chain-sooner : (q r n : ℕ) (cs : List (Change A)) → q ≤ r → Chain r n cs → Chain q n cs
   chain-sooner q r n [] h v = omega arith
   chain-sooner q r n (c ∷ cs) h v = (omega arith, v .1)
 

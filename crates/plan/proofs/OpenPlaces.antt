@@ -5,16 +5,15 @@
 use Prim.Native.Nat.{ℕ, zero, suc, _+_, _-_, _≤_, _<_}
 use native.Mathlib.Omega.{arith}
 use mathlib.Core.Path.{_≡_, refl, sym, ap, _∙_, subst}
-use mathlib.Core.Bool.{Bool, true, false, _&&_}
-use mathlib.Core.Logic.{_↔_, _≢_, _⊎_, inl, inr}
+use mathlib.Core.Logic.{_↔_, _≢_, inl, inr}
 use mathlib.Core.List.{List}
-use lib.Dec.{T, leb, ltb, eqb, leb→le, le→leb, ltb→lt, lt→ltb, eqb→eq}
+use lib.Dec.{T, leb, ltb, leb→le, le→leb, ltb→lt, lt→ltb, eqb→eq}
 use lib.ListN.{length, getD}
-use Rattle.plan.specs.Tree.{Forest, none, tree, count, sizes, dists, from, children}
+use Rattle.plan.specs.Tree.{Forest, none, tree, count, sizes, dists, from}
 use Rattle.plan.specs.Table.{Table, table}
 use Rattle.plan.specs.Change.{opens, openPlace}
 use Rattle.plan.specs.Open.{sizeAt, Child, OpenPlace, QuickPlace}
-use Rattle.plan.proofs.Kit.{T-and, and-T, eq→eqb, by-place, by-side}
+use Rattle.plan.proofs.Kit.{T-and, and-T, by-place, by-side}
 use Rattle.plan.proofs.Columns.{length-sizes}
 use Rattle.plan.proofs.Rows.{below, below-fits, from-kids, from-rest, column-kids, column-rest, is-dist, is-size, sizeColumn, size-at, size-below, dist-below}
 

@@ -6,12 +6,12 @@ use native.Mathlib.Omega.{arith}
 use mathlib.Core.Path.{_≡_, refl, ap, _∙_}
 use mathlib.Core.List.{List, [], _∷_, _++_, map, map-append}
 use lib.Dec.{T, eqb, eqb→eq}
-use lib.ListN.{length, take, drop, getD}
+use lib.ListN.{length, take, drop}
 use Rattle.plan.specs.declared.Record.{Record}
 use Rattle.plan.specs.declared.Before.the-variants.{Nothing}
 use Rattle.plan.specs.Tree.{Forest, count, labels}
 use Rattle.plan.specs.Table.{Table, even, run}
-use Rattle.plan.specs.Change.{Act, delete, rename, replace, Change, insert, act, location, kept}
+use Rattle.plan.specs.Change.{delete, rename, replace, Change, insert, act, location, kept}
 use Rattle.plan.specs.Paint.{Origin, old, new, Painted, painted, plan, origins}
 use Rattle.plan.specs.Records.{isDelete, isInsert, isRename, change, changes, located}
 use Rattle.plan.specs.Call.{result}
@@ -102,7 +102,7 @@ change-honest t i k r =
     (λ e. cond-elim (Honest t) (isInsert r) _ _ (λ w. new-origins k (run i (r .from)))
     (λ w. cond-elim (Honest t) (isRename r) _ _ (λ z a. refl) (λ z. new-origins k (run i (r .from)))))
 
-changes-honest : (t : Forest Painted) (i : Table) (k : ℕ) (rs : List Record) → All (Honest t) (changes i k rs)
+pub changes-honest : (t : Forest Painted) (i : Table) (k : ℕ) (rs : List Record) → All (Honest t) (changes i k rs)
 unfolding changes
 changes-honest t i k [] = tt
 changes-honest t i k (r ∷ rs) = (change-honest t i k r, changes-honest t i (suc k) rs)

@@ -1,10 +1,10 @@
 -- The pass: a list in one go over the forest, from left to right. What is left of the list is handed on; a delete or
 -- replace drops what it makes vain. For a list that fits, the pass gives the forest that its changes give one by one.
 -- Assumes nothing.
-use Prim.Native.Nat.{ℕ, zero, suc, _+_, _≤_, _<_}
+use Prim.Native.Nat.{ℕ, suc, _+_, _≤_, _<_}
 use native.Mathlib.Omega.{arith}
 use mathlib.Core.Path.{_≡_, refl, sym, subst, _∙_}
-use mathlib.Core.Bool.{Bool, true, false, cond}
+use mathlib.Core.Bool.{true, false, cond}
 use mathlib.Core.List.{List, [], _∷_, _++_, append-assoc, append-nil}
 use lib.Dec.{T, eqb}
 use Rattle.plan.specs.Tree.{Forest, none, tree, count, _⊕_}
@@ -12,7 +12,7 @@ use Rattle.plan.specs.Change.{Act, delete, rename, replace, Change, inse
 use Rattle.plan.proofs.Kit.{true-of, false-of, All, all-append, all-map}
 use Rattle.plan.proofs.Standing.{kids, past, sort-kids, sort-past, only-kids, location, row, mine, side, made, allMade, valid, before, here, told, mine-told, lost-told, ord}
 use Rattle.plan.proofs.Single.{keep-all, made-insert, made-act, made-kids, made-past, made-append}
-use Rattle.plan.proofs.Cut.{Sorted, Fit, end, Kid, Past, Cut, cut, Shape, plain, acts, inserts, shape-of, in-kid}
+use Rattle.plan.proofs.Cut.{Sorted, Fit, end, Kid, Past, cut, Shape, plain, acts, inserts, shape-of, in-kid}
 
 -- what comes out: a forest, and the changes that are left
 abbrev pub Out : Type 0 → Type 0

@@ -1,13 +1,13 @@
 -- A list doesn't look at labels: labels changed before it or after it come to the same. So the paint of a new row tells
 -- the truth, and so does whatever else the rows carry.
 -- Assumes nothing.
-use Prim.Native.Nat.{ℕ, zero, suc, _+_, _-_}
-use mathlib.Core.Path.{_≡_, refl, sym, ap, _∙_}
+use Prim.Native.Nat.{ℕ, zero, suc, _-_}
+use mathlib.Core.Path.{_≡_, refl, ap, _∙_}
 use mathlib.Core.Bool.{Bool, true, false, cond}
 use mathlib.Core.List.{List, [], _∷_}
 use lib.Dec.{ltb}
-use Rattle.plan.specs.Tree.{Forest, none, tree, count, _⊕_, at, relabel}
-use Rattle.plan.specs.Change.{Act, delete, rename, replace, Change, insert, act, put, acted, joined, single, meaning}
+use Rattle.plan.specs.Tree.{Forest, none, tree, count, at, relabel}
+use Rattle.plan.specs.Change.{delete, rename, replace, Change, insert, act, put, acted, joined, single, meaning}
 use Rattle.plan.proofs.Columns.{count-relabel, beside-relabel}
 
 module _ {A B : Type 0} (φ : A → B) where

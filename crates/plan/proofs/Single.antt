@@ -1,15 +1,15 @@
 -- What a change that is made leaves as it was: the rows before its location, and what lies beside its place.
 -- Assumes nothing.
-use Prim.Native.Nat.{ℕ, zero, suc, _+_, _≤_, _<_}
+use Prim.Native.Nat.{ℕ, suc, _+_, _≤_}
 use native.Mathlib.Omega.{arith}
 use mathlib.Core.Path.{_≡_, refl}
-use mathlib.Core.Bool.{Bool, true, false}
+use mathlib.Core.Bool.{true}
 use mathlib.Core.List.{List, [], _∷_, _++_}
 use Rattle.plan.specs.Tree.{Forest, none, tree, count, _⊕_}
 use Rattle.plan.specs.Change.{Act, Change, insert, act, instead}
 use Rattle.plan.proofs.Kit.{All}
 use Rattle.plan.proofs.Columns.{count-beside}
-use Rattle.plan.proofs.Standing.{Side, here, kids, past, by, by-elim, location, mine, side, made, allMade, told}
+use Rattle.plan.proofs.Standing.{here, kids, past, by-elim, location, mine, side, made, allMade, told}
 
 module _ {A : Type 0} where
   -- an insert takes no row away

@@ -1,18 +1,16 @@
 -- Demand 2: a table is sound exactly when it is the table of some tree of 1 to 65,535 rows, and no two trees have one
 -- table.
 -- Assumes nothing.
-use Prim.Native.Nat.{ℕ, zero, suc, _+_, _≤_, _<_}
+use Prim.Native.Nat.{ℕ, suc, _≤_}
 use native.Mathlib.Omega.{arith}
-use mathlib.Core.Path.{_≡_, refl, sym, ap, _∙_, subst}
-use mathlib.Core.Bool.{Bool, true, false, _&&_}
+use mathlib.Core.Path.{_≡_, refl, sym, ap, _∙_}
+use mathlib.Core.Bool.{_&&_}
 use mathlib.Core.Logic.{_↔_}
 use mathlib.Core.List.{List, [], _∷_}
 use lib.Dec.{T, leb, eqb, leb→le, le→leb, eqb→eq, eqb-refl}
-use lib.ListN.{length}
-use Rattle.plan.specs.Tree.{Forest, none, tree, count, labels, sizes, dists, isTree}
-use Rattle.plan.specs.Table.{Table, table, tableOf, spelled, same, sameTable, mostRows, sound}
+use Rattle.plan.specs.Tree.{Forest, none, tree, count, labels, sizes, isTree}
+use Rattle.plan.specs.Table.{Table, tableOf, spelled, same, sameTable, mostRows, sound}
 use Rattle.plan.proofs.Kit.{T-and, and-T}
-use Rattle.plan.proofs.Columns.{length-sizes, length-dists, length-labels}
 use Rattle.plan.proofs.Readback.{read-back, decide}
 
 -- ---- the tests for equality

@@ -1,15 +1,15 @@
 -- Where a change stands to a list of siblings: at the start of the first tree, inside that tree, or past it.
 -- The siblings are looked at from row b on; the first of all their siblings stands at row u, just behind their parent.
 -- Assumes nothing.
-use Prim.Native.Nat.{ℕ, zero, suc, _+_, _≤_, _<_}
+use Prim.Native.Nat.{ℕ, suc, _+_, _≤_, _<_}
 use native.Mathlib.Omega.{arith}
-use mathlib.Core.Path.{_≡_, refl, sym, subst}
+use mathlib.Core.Path.{_≡_, refl, subst}
 use mathlib.Core.Bool.{Bool, true, false, not, _&&_, _||_}
 use mathlib.Core.List.{List, [], _∷_}
 use lib.Dec.{T, leb, ltb, eqb, leb→le, ltb→lt, lt→ltb, le→leb, nltb→le, eqb→eq, T-not}
 use Rattle.plan.specs.Tree.{Forest, none, tree, count, _⊕_}
 pub use Rattle.plan.specs.Change.{location}
-use Rattle.plan.specs.Change.{Act, Change, insert, act, instead, lost}
+use Rattle.plan.specs.Change.{Change, insert, act, instead, lost}
 use Rattle.plan.proofs.Kit.{T-and, T-or, not-and, eq→eqb, by-place}
 
 pub data Side : Type 0 where

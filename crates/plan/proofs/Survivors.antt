@@ -3,19 +3,19 @@
 -- Assumes nothing.
 use Prim.Native.Nat.{ℕ, zero, suc, _+_, _-_, _≤_, _<_}
 use native.Mathlib.Omega.{arith}
-use mathlib.Core.Path.{_≡_, refl, sym, ap, _∙_, subst}
-use mathlib.Core.Bool.{Bool, true, false, cond, _||_}
+use mathlib.Core.Path.{_≡_, refl, sym, ap, _∙_}
+use mathlib.Core.Bool.{Bool, true, false, cond}
 use mathlib.Core.List.{List, [], _∷_, _++_, append-nil}
 use lib.Dec.{T, leb, eqb}
 use lib.ListN.{length}
-use borrow.Author.Tests.{eqb-true, eq-eqb, ne-eqb, lt-leb, le-ltb}
+use borrow.Author.Tests.{eqb-true, eq-eqb, ne-eqb, le-ltb}
 use Rattle.plan.specs.declared.Record.{Record}
 use Rattle.plan.specs.Tree.{Forest, count}
 use Rattle.plan.specs.Table.{Table}
-use Rattle.plan.specs.Change.{Act, delete, rename, replace, Change, insert, act, location}
+use Rattle.plan.specs.Change.{delete, rename, replace, Change, insert, act, location}
 use Rattle.plan.specs.Paint.{Origin, old, new, Painted, plan, origins}
 use Rattle.plan.specs.Call.{result}
-use Rattle.plan.specs.Mapping.{Fate, row, gone, fate, originAt, goes, takes, taken}
+use Rattle.plan.specs.Mapping.{row, gone, fate, originAt, goes, takes, taken}
 use Rattle.plan.proofs.Kit.{and-false, or-true, true-of, by-place, All}
 use Rattle.plan.proofs.Merge.{onward, Chain, not-back}
 use Rattle.plan.proofs.Mapping.{rowsOf, AllNew, arrives, track, Honest, Told, went, stayed, goes-fits, taken-none, length-origins}

@@ -1,21 +1,22 @@
 -- What it takes to pass tests 4 to 8, record by record.
 -- Assumes nothing.
-use Prim.Native.Nat.{ℕ, zero, suc}
+use Prim.Native.Nat.{ℕ, suc}
 use native.Mathlib.Omega.{arith}
-use mathlib.Core.Path.{_≡_, refl, sym, subst}
+use mathlib.Core.Path.{_≡_, refl}
 use mathlib.Core.Bool.{Bool, true, false, not, cond}
 use mathlib.Core.List.{List, [], _∷_}
-use lib.Dec.{T, eqb, eqb→eq}
+use lib.Dec.{T, eqb}
+use borrow.Author.Tests.{eqb-true}
 use Rattle.plan.specs.declared.Record.{Record}
 use Rattle.plan.specs.declared.Before.{Before}
 use Rattle.plan.specs.declared.Before.the-variants.{After}
-use Rattle.plan.specs.declared.Verdict.{Verdict}
 use Rattle.plan.specs.declared.Verdict.the-variants.{Passed}
 use Rattle.plan.specs.Tree.{Forest}
 use Rattle.plan.specs.Table.{Table}
 use Rattle.plan.specs.Records.{known, located, runs, follows, alone, failing}
-use Rattle.plan.specs.Call.{then, test, tested}
+use Rattle.plan.specs.Call.{test, tested}
 use Rattle.plan.proofs.Kit.{true-of, All}
+use Rattle.plan.proofs.Verdicts.{test-true, then-passed}
 use Rattle.plan.proofs.Fits.{InOrder}
 
 -- the first of five tests that fails, or 0
@@ -32,10 +33,6 @@ pick-zero true true true true true e = (tt, tt, tt, tt, tt)
 
 zero-pick : (k l r f a : Bool) → T k → T l → T r → T f → T a → pick k l r f a ≡ 0
 zero-pick k l r f a s t u v w = rw (true-of k s, true-of l t, true-of r u, true-of f v, true-of a w)
-
-then-passed : (m : Bool) (n p c : ℕ) (v : Verdict) → then (test m n p c) v ≡ Passed → T m × (v ≡ Passed)
-then-passed true n p c v e = (tt, e)
-then-passed false n p c v e = let z : _≡_ {A = ℕ} 0 1 = cc in absurd (omega arith)
 
 module _ {A : Type 0} (t : Forest A) (i : Table) where
   -- a record behind b passes
@@ -68,8 +65,8 @@ module _ {A : Type 0} (t : Forest A) (i : Table) where
   tested-passes k b [] e = tt
   tested-passes k b (r ∷ rs) e =
       let n : ℕ = failing t i b r in
-      let w = then-passed (eqb n 0) n k 0 (tested t i (suc k) (After r) rs) e in
-      (passes b r (eqb→eq n 0 (w .0)), tested-passes (suc k) (After r) rs (w .1))
+      let w = then-passed (test (eqb n 0) n k 0) (tested t i (suc k) (After r) rs) e in
+      (passes b r (eqb-true n 0 (test-true (eqb n 0) n k 0 (w .0))), tested-passes (suc k) (After r) rs (w .1))
 
   pub passes-tested : (k : ℕ) (b : Before) (rs : List Record) → PassAll b rs → tested t i k b rs ≡ Passed
   unfolding tested

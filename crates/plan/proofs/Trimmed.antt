@@ -1,17 +1,17 @@
 -- The kept changes, found from left to right: of a list that fits, it is enough to remember the rows that the last kept
 -- delete or replace took away.
 -- Assumes nothing.
-use Prim.Native.Nat.{ℕ, zero, suc, _+_, _≤_, _<_}
+use Prim.Native.Nat.{ℕ, suc, _+_, _≤_}
 use native.Mathlib.Omega.{arith}
 use mathlib.Core.Path.{_≡_, refl, sym, ap, _∙_, subst}
-use mathlib.Core.Bool.{Bool, true, false, cond, _&&_}
+use mathlib.Core.Bool.{Bool, true, false, cond}
 use mathlib.Core.List.{List, [], _∷_, _++_}
 use lib.Dec.{T, leb, ltb, eqb→eq}
 use lib.ListN.{getD}
 use borrow.Author.Tests.{le-ltb}
 use Rattle.plan.specs.Tree.{Forest, none, tree, count, sizes}
-use Rattle.plan.specs.Change.{Act, delete, rename, replace, Change, insert, act, removes, lost, vain, kept}
-use Rattle.plan.proofs.Kit.{and-false, All, all-map}
+use Rattle.plan.specs.Change.{Act, delete, rename, replace, Change, insert, act, removes, lost, kept}
+use Rattle.plan.proofs.Kit.{and-false, cond-elim, All, all-map}
 use Rattle.plan.proofs.Standing.{sort-kids, mine, valid}
 use Rattle.plan.proofs.Cut.{Sorted, Fit, end, Kid, Past, cut, Shape, plain, acts, inserts, shape-of}
 use Rattle.plan.proofs.Kept.{Rows, kid-rows, rest-rows, kept-insert, kids-kept, kept-parts, kept-own, past-free, vain-past, own-end}
@@ -34,6 +34,13 @@ module _ {A : Type 0} (t : Forest A) where
   none-lost : (c : Change A) → lost 0 0 c ≡ false
   none-lost (insert p q s) = and-false (leb 0 q) (le-ltb q 0 (omega arith))
   none-lost (act p x) = and-false (ltb 0 p) (le-ltb p 0 (omega arith))
+
+  pub all-trimmed : (P : Change A → Type 0) (a b : ℕ) (cs : List (Change A)) → All P cs → All P (trimmed a b cs)
+  unfolding trimmed
+  all-trimmed P a b [] v = tt
+  all-trimmed P a b (c ∷ cs) v =
+      cond-elim (All P) (lost a b c) _ _ (λ e. all-trimmed P a b cs (v .1))
+      (λ e. (v .0, all-trimmed P (gone-from c) (gone-to c) cs (v .1)))
 
   Unlost : (a b : ℕ) → Change A → Type 0
   Unlost a b d = lost a b d ≡ false

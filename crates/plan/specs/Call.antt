@@ -1,7 +1,7 @@
 -- The calls: the published tests in their order, and what an accepted call writes.
 -- Assumes nothing.
-use Prim.Native.Nat.{ℕ, zero, suc}
-use mathlib.Core.Bool.{Bool, true, false, cond, _&&_}
+use Prim.Native.Nat.{ℕ, suc}
+use mathlib.Core.Bool.{Bool, true, false, _&&_}
 use mathlib.Core.List.{List, [], _∷_, _++_}
 use lib.Dec.{leb, eqb}
 use lib.ListN.{length, drop}
@@ -15,7 +15,7 @@ use Rattle.plan.specs.Answer.{accepted, refused}
 use Rattle.plan.specs.Tree.{Forest, count}
 use Rattle.plan.specs.Table.{Table, table, even, sound, mostRows}
 use Rattle.plan.specs.Change.{meaning}
-use Rattle.plan.specs.Paint.{Origin, old, Painted, plan, written}
+use Rattle.plan.specs.Paint.{old, Painted, plan}
 use Rattle.plan.specs.Records.{changes, failing}
 
 -- go on with the next tests if these passed

@@ -15,7 +15,9 @@
 --   Answer    accepted, refused: the two kinds of answer
 --   Call      tested: tests 4 to 8 of a list. result: the tree that a list leads to. judged: tests 1 to 9. bulk:
 --             tests 1 to 10. answer, held: what a call hands back, and what the new columns then hold
---   Mapping   fate: what became of an old row. originAt: which row a new one was. asked: the tests of both mappings.
+--   Axes      soundness: tests 1 and 2. parent, firstChild, nextSibling, subtree, walkStart, step: the axes on raw
+--             columns. parentIn, .. : the tree's own relations
+--   Mapping   fate: what became of an old row. originAt: which row a new one was. queried: the tests of both mappings.
 --             come, left, taken: the paper's formula for the new number of an old row
 --   Cases     cases A to L of the worked plan
 --
@@ -28,5 +30,6 @@ pub mod Paint
 pub mod Records
 pub mod Answer
 pub mod Call
+pub mod Axes
 pub mod Mapping
 pub mod Cases

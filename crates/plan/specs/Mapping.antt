@@ -1,17 +1,17 @@
 -- The two mappings of row numbers, told by the paint: which new row an old row became, and which row a new one was.
 -- Assumes nothing.
-use Prim.Native.Nat.{ℕ, zero, suc, _+_}
-use mathlib.Core.Bool.{Bool, true, false, cond, _&&_, _||_}
+use Prim.Native.Nat.{ℕ, suc, _+_}
+use mathlib.Core.Bool.{Bool, false, cond, _&&_, _||_}
 use mathlib.Core.List.{List, [], _∷_}
 use lib.Dec.{leb, ltb, eqb}
-use lib.ListN.{length, getD}
+use lib.ListN.{getD}
 use Rattle.plan.specs.declared.Record.{Record}
 use Rattle.plan.specs.declared.Verdict.{Verdict}
 use Rattle.plan.specs.Tree.{Forest, count, sizes}
 use Rattle.plan.specs.Table.{Table, even}
-use Rattle.plan.specs.Change.{Act, delete, rename, replace, Change, insert, act, location, removes}
+use Rattle.plan.specs.Change.{delete, rename, replace, Change, insert, act, location, removes}
 use Rattle.plan.specs.Paint.{Origin, old, new}
-use Rattle.plan.specs.Call.{then, test, result, judged}
+use Rattle.plan.specs.Call.{then, test, judged}
 
 -- what became of an old row: a new row, or it is gone
 pub data Fate : Type 0 where
@@ -29,8 +29,8 @@ abbrev pub originAt : List Origin → ℕ → Origin
 originAt os r = getD os r (old 0)
 
 -- the tests of both mappings: 1 to 9, then 11 for a row number that is not below n
-unfoldable pub asked : Bool → Table → Table → List Record → (n r : ℕ) → Verdict
-asked evens t i l n r = then (judged (evens && (even t && even i)) t i l) (test (ltb r n) 11 r 0)
+unfoldable pub queried : Bool → Table → Table → List Record → (n r : ℕ) → Verdict
+queried evens t i l n r = then (judged (evens && (even t && even i)) t i l) (test (ltb r n) 11 r 0)
 
 -- ---- the paper's formula
 module _ {A : Type 0} where

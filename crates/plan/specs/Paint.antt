@@ -1,6 +1,6 @@
 -- Rows painted with where they come from: after a list, the paint of each new row tells which row it was.
 -- Assumes nothing.
-use Prim.Native.Nat.{ℕ, zero, suc}
+use Prim.Native.Nat.{ℕ, suc}
 use mathlib.Core.List.{List, [], _∷_, map}
 use Rattle.plan.specs.Tree.{Forest, labels, relabel}
 use Rattle.plan.specs.Table.{Table, tableOf, spelled}

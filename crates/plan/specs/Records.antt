@@ -1,7 +1,7 @@
 -- Records: what each means, and the published tests 4 to 8 of each.
 -- Assumes nothing.
-use Prim.Native.Nat.{ℕ, zero, suc, _+_, _-_}
-use mathlib.Core.Bool.{Bool, true, false, cond, _&&_, _||_, not}
+use Prim.Native.Nat.{ℕ, suc, _+_}
+use mathlib.Core.Bool.{Bool, true, cond, _&&_, _||_, not}
 use mathlib.Core.List.{List, [], _∷_}
 use lib.Dec.{leb, ltb, eqb}
 use lib.ListN.{length, getD}
@@ -10,8 +10,8 @@ use Rattle.plan.specs.declared.Before.{Before}
 use Rattle.plan.specs.declared.Before.the-variants.{Nothing, After}
 use Rattle.plan.specs.Tree.{Forest, count}
 use Rattle.plan.specs.Table.{Table, sound, run}
-use Rattle.plan.specs.Change.{Act, delete, rename, replace, Change, insert, act, openPlace}
-use Rattle.plan.specs.Paint.{Origin, new, Painted, plan}
+use Rattle.plan.specs.Change.{delete, rename, replace, Change, insert, act, openPlace}
+use Rattle.plan.specs.Paint.{new, Painted, plan}
 
 -- the kinds
 abbrev pub isDelete : Record → Bool

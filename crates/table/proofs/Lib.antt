@@ -1,0 +1,12 @@
+pub mod Build
+pub mod Parents
+pub mod Upward
+pub mod Prefix
+pub mod Totals
+pub mod Sum
+pub mod Adding
+pub mod Says
+pub mod Told
+pub mod Replies
+pub mod Shapes
+pub mod Unique

@@ -1,0 +1,63 @@
+// The table: whether three lent columns are a tree's, what stands around a row, and the walk over a row's children.
+// Every call takes any columns: sound or not, of equal length or not, with any numbers in them.
+use plan::Answer;
+ghost use mathlib.Core.Path.{_≡_};
+ghost use Prim.Native.Nat.{_<_};
+ghost use Rattle.plan.specs.Table.{table};
+ghost use Rattle.table.specs.Answers.{evenRows};
+ghost use Rattle.table.specs.Rows.{Rooted, Says};
+
+pub mod axes;
+pub mod climb;
+pub mod sound;
+pub mod walk;
+
+// A number of a column, wide enough that no sum of rows and sizes wraps.
+fn wide(x: u32) -> usize
+    ensures { λ r. ⌜ (r ≡ x) × (r < 4294967296) ⌝ }
+{
+    x as usize
+}
+
+// What a test of whole columns answers: it passes, and the table has so many rows; or it fails.
+enum Tested {
+    Rows(usize),
+    Failed,
+}
+
+// Test 1: the three columns are equally long.
+fn even(dist: &[u32], size: &[u32], value: &[u32]) -> Tested
+    ensures { λ a. ⌜ a ≡ evenRows (table (now (dist .entry)) (now (size .entry)) (now (value .entry))) ⌝ }
+{
+    let n = size.len();
+    if dist.len() != n {
+        return Tested::Failed;
+    }
+    if value.len() != n {
+        return Tested::Failed;
+    }
+    Tested::Rows(n)
+}
+
+// Are the columns equally long, with 1 to 65,535 rows, and is row 0 the root of them all?
+fn rooted(dist: &[u32], size: &[u32]) -> bool
+    ensures { λ b. ⌜ Says b (Rooted (now (dist .entry)) (now (size .entry))) ⌝ }
+{
+    let n = size.len();
+    if dist.len() != n {
+        return false;
+    }
+    if n == 0 {
+        return false;
+    }
+    if n > Answer::MOST_ROWS {
+        return false;
+    }
+    if dist[0] != 1 {
+        return false;
+    }
+    if wide(size[0]) != n {
+        return false;
+    }
+    true
+}

@@ -1,10 +1,10 @@
 // The axes.
-use crate::out;
-use crate::out::heading;
-use crate::out::text;
-use crate::out::text_number;
 use crate::told;
-use crate::worked;
+use out::column;
+use out::heading;
+use out::text;
+use out::text_number;
+use out::worked;
 use table::axes::Found;
 use table::axes::first_child;
 use table::axes::next_sibling;
@@ -26,7 +26,7 @@ fn row(dist: &[u32], size: &[u32], value: &[u32], r: u32) {
     line(b"next sibling of ", r, next_sibling(dist, size, value, r));
     line(b"subtree of ", r, subtree_top(dist, size, value, r));
     text(b"  values:");
-    out::column(subtree(dist, size, value, r));
+    column(subtree(dist, size, value, r));
     text(b"\n");
 }
 

@@ -1,10 +1,8 @@
 // What the calls answer on the paper's examples, and at the ends of their ranges: one module for each topic.
 mod axes_cases;
-mod out;
 mod soundness_cases;
 mod told;
 mod walk_cases;
-mod worked;
 
 fn main() {
     soundness_cases::all();

@@ -1,9 +1,10 @@
 // The soundness call, and the first bad row.
-use crate::out::heading;
-use crate::out::text;
-use crate::out::text_number;
 use crate::told;
-use crate::worked;
+use out::flat;
+use out::heading;
+use out::text;
+use out::text_number;
+use out::worked;
 use table::climb::first_bad;
 use table::sound::is_sound;
 use table::sound::soundness;
@@ -38,26 +39,6 @@ fn run(dist: &[u32], size: &[u32], value: &[u32], f: usize, e: usize) {
     } else {
         text(b": not sound\n");
     }
-}
-
-// A number goes into a row of a column, if it has that row.
-fn put(column: &mut [u32], r: u32, x: u32) {
-    let at = r as usize;
-    if at < column.len() {
-        column[at] = x;
-    }
-}
-
-// The flat table of n rows: a root and its children, which have none.
-fn flat(dist: &mut [u32], size: &mut [u32], n: u32) {
-    let mut r: u32 = 0;
-    while r < n {
-        put(dist, r, r);
-        put(size, r, 1);
-        r += 1;
-    }
-    put(dist, 0, 1);
-    put(size, 0, n);
 }
 
 // The first m rows of the columns.

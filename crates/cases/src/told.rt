@@ -1,7 +1,7 @@
 // The answers of the calls, in words.
-use crate::out::number;
-use crate::out::text;
-use crate::out::text_number;
+use out::number;
+use out::text;
+use out::text_number;
 use plan::Answer;
 use table::axes::Found;
 use table::climb::Shape;

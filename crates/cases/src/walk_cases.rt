@@ -1,9 +1,9 @@
 // The walk over a row's children.
-use crate::out::heading;
-use crate::out::text;
-use crate::out::text_number;
 use crate::told;
-use crate::worked;
+use out::heading;
+use out::text;
+use out::text_number;
+use out::worked;
 use table::walk::start_walk;
 
 // So many steps of a walk.

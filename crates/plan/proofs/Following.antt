@@ -4,7 +4,7 @@ use Prim.Native.Nat.{ℕ, zero, suc, _+_, _-_, _≤_, _<_}
 use native.Mathlib.Omega.{arith}
 use mathlib.Core.Path.{_≡_, sym, ap, _∙_}
 use mathlib.Core.Bool.{true, false}
-use mathlib.Core.List.{List, [], _∷_, _++_, append-assoc}
+use mathlib.Core.List.{List, [], _∷_, _++_, append-assoc, append-nil}
 use lib.Dec.{T, eqb, eqb→eq}
 use lib.ListN.{length, take, drop, getD, length-drop}
 use lib.Seq.{length-take-le}
@@ -12,11 +12,11 @@ use Rattle.plan.specs.Tree.{Forest}
 use Rattle.plan.specs.Table.{Table, even, run}
 use Rattle.plan.specs.Change.{rename, Change, act, location, lost}
 use Rattle.plan.specs.Paint.{Origin, old, new, Painted, plan, origins}
-use Rattle.plan.specs.Mapping.{originAt}
+use Rattle.plan.specs.Mapping.{row, fate, originAt}
 use Rattle.plan.proofs.Kit.{T-and}
 use Rattle.plan.proofs.Trimmed.{gone-from, gone-to, trimmed}
 use Rattle.plan.proofs.Merge.{onward, Chain}
-use Rattle.plan.proofs.Mapping.{rowsOf, arrives, track}
+use Rattle.plan.proofs.Mapping.{rowsOf, length-rows, AllNew, arrives, track, fate-new, fate-other, fate-among}
 use Rattle.plan.proofs.Origins.{plan-origins, take-rows}
 
 -- ---- rows of one paint
@@ -42,6 +42,49 @@ module _ (o : ℕ → Origin) where
   past-rows i (suc m) (suc x) rest h =
       past-rows (suc i) m x rest (omega arith) ∙ ap (originAt rest) (omega arith)
 
+-- ---- old rows from q up to p, then a run of record k, then more
+module _ (q p k n : ℕ) (rest : List Origin) where
+  abbrev pub spliced : List Origin
+  spliced = rowsOf old q (p - q) ++ (rowsOf (new k) 0 n ++ rest)
+
+  -- which row stands at x
+  pub at-before : (x : ℕ) → x < p - q → originAt spliced x ≡ old (q + x)
+  at-before x l = at-rows old q (p - q) x (rowsOf (new k) 0 n ++ rest) l
+
+  pub at-run : (x : ℕ) → p - q ≤ x → x < p - q + n → originAt spliced x ≡ new k (x - (p - q))
+  at-run x l m =
+      past-rows old q (p - q) x (rowsOf (new k) 0 n ++ rest) l
+      ∙ (at-rows (new k) 0 n (x - (p - q)) rest (omega arith) ∙ ap (new k) (omega arith))
+
+  pub at-past : (x : ℕ) → p - q + n ≤ x → originAt spliced x ≡ originAt rest (x - (p - q + n))
+  at-past x l =
+      past-rows old q (p - q) x (rowsOf (new k) 0 n ++ rest) (omega arith)
+      ∙ (past-rows (new k) 0 n (x - (p - q)) rest (omega arith) ∙ ap (originAt rest) (omega arith))
+
+  -- what becomes of the old row x, where the next new row is j
+  all-new : (y m : ℕ) → AllNew (rowsOf (new k) y m)
+  all-new y zero = tt
+  all-new y (suc m) = all-new (suc y) m
+
+  pub fate-before : (j x : ℕ) → q ≤ x → x < p → fate spliced j x ≡ row (j + (x - q))
+  fate-before j x l m = fate-among q (p - q) (rowsOf (new k) 0 n ++ rest) j x l (omega arith)
+
+  pub fate-behind : (j x : ℕ) → q ≤ p → p ≤ x → fate spliced j x ≡ fate rest (j + (p - q) + n) x
+  fate-behind j x l m =
+      fate-other q (p - q) (rowsOf (new k) 0 n ++ rest) j x (λ y u v e. omega arith)
+      ∙ (fate-new (rowsOf (new k) 0 n) rest (j + (p - q)) x (all-new 0 n)
+      ∙ ap (λ (z : ℕ). fate rest (j + (p - q) + z) x) (length-rows (new k) 0 n))
+
+-- nothing but old rows
+pub at-last : (q n x : ℕ) → x < n - q → originAt (rowsOf old q (n - q)) x ≡ old (q + x)
+at-last q n x l =
+    ap (λ (os : List Origin). originAt os x) (sym (append-nil (rowsOf old q (n - q)))) ∙ at-rows old q (n - q) x [] l
+
+pub fate-last : (q n j x : ℕ) → q ≤ x → x < n → fate (rowsOf old q (n - q)) j x ≡ row (j + (x - q))
+fate-last q n j x l m =
+    ap (λ (os : List Origin). fate os j x) (sym (append-nil (rowsOf old q (n - q))))
+    ∙ fate-among q (n - q) [] j x l (omega arith)
+
 module _ (t : Forest Painted) where
   -- up to a row that no change reaches across
   track-front : (q m n : ℕ) (cs : List (Change Painted)) → q ≤ m → Chain t m n cs
@@ -65,7 +108,8 @@ module _ (t : Forest Painted) where
       let w : q + (p - q) ≡ p = omega arith in
       sym
       (track-front q (suc p) n cs (omega arith) v
-      ∙ (rw (e, rows-join old q (p - q) 1, w) (append-assoc (rowsOf old q (p - q)) (old p ∷ []) (track t (suc p) n cs))))
+      ∙ (rw (e, rows-join old q (p - q) 1, w)
+      (append-assoc (rowsOf old q (p - q)) (old p ∷ []) (track t (suc p) n cs))))
 
   -- what is still to come, where the old rows go on at q and the rows from a up to b are gone
   abbrev pub ahead : (q n a b : ℕ) → List (Change Painted) → List Origin

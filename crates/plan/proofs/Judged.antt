@@ -28,7 +28,8 @@ pub record Accepted (evens : Bool) (t i : Table) (l : List Record) : Type 0 wher
   pub all-pass : PassAll (plan old t) i Nothing l
   pub few-rows : count (result t i l) ≤ mostRows
 
-pub accepted-judged : (evens : Bool) (t i : Table) (l : List Record) → judged evens t i l ≡ Passed → Accepted evens t i l
+pub accepted-judged : (evens : Bool) (t i : Table) (l : List Record)
+    → judged evens t i l ≡ Passed → Accepted evens t i l
 unfolding judged
 accepted-judged evens t i l e =
     let n : ℕ = count (result t i l) in

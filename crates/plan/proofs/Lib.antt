@@ -1,21 +1,31 @@
 -- The laws of the definitions, and the theorems named by demand.
 --
---   general      Kit (tests, numbers, lists), Columns (a forest's columns), Rows (a column read at a row)
+--   general      Kit (tests, numbers, lists), Columns (a forest's columns), Rows (a column read at a row), Verdicts
+--                (tests one after the other), FourKinds (what a record of each kind brings and takes)
+--   demand 1     Tests (what the tests of an axis tell), Judged (what it takes to pass tests 1 to 9), Unused (what a
+--                kind doesn't use is not read)
 --   demand 2     Readback (a tree's columns read back), Sound (sound exactly when some tree has the table; one tree
---                only), OpenPlaces (three definitions of an open place are one)
+--                only), Planned (the tree that a sound table spells), Cells, Kin, Axes (parents, children, subtrees),
+--                OpenPlaces (three definitions of an open place are one)
 --   demand 3     Standing, Single, Cut (where a change stands to a tree), Pass (the pass over a forest), Faithful (the
 --                pass gives the meaning), Fits (a list that passes tests 5, 7 and 8), Tested (what it takes to pass),
 --                Kept (what is vain may be dropped), Trimmed (the kept changes from left to right), OnePass (the
---                theorem), Relabel (labels before or after), Merge (the labels after a list are a merge), Mapping (the
---                fate of a row in it), Origins (the origins of a result, the paper's formula), Survivors (the mappings
---                are inverse on survivors, which keep their order)
+--                theorem), RowsNeeded (how many rows a result has), Relabel (labels before or after)
+--   columns      Values, Stretch, Machine, MachineForest, MachineTable, MachineBetween, RecordFacts, Line (the pass as
+--                moves over columns, from left to right)
+--   mappings     Merge (the labels after a list are a merge), Mapping (the fate of a row in it), Origins (the origins
+--                of a result, the paper's formula), Survivors (the mappings are inverse on survivors, which keep their
+--                order), Following, Said, Meeting (one row followed through the records)
 --   Cases        cases A to L hold
 pub mod Kit
 pub mod Columns
 pub mod Rows
 pub mod Verdicts
+pub mod FourKinds
 pub mod Readback
 pub mod Sound
+pub mod Planned
+pub mod Unused
 pub mod Cells
 pub mod Kin
 pub mod Tests
@@ -32,10 +42,21 @@ pub mod Judged
 pub mod Kept
 pub mod Trimmed
 pub mod OnePass
+pub mod RowsNeeded
 pub mod Relabel
+pub mod Values
+pub mod Stretch
+pub mod Machine
+pub mod MachineForest
+pub mod MachineTable
+pub mod MachineBetween
+pub mod RecordFacts
+pub mod Line
 pub mod Merge
 pub mod Mapping
 pub mod Origins
 pub mod Survivors
 pub mod Following
+pub mod Said
+pub mod Meeting
 pub mod Cases

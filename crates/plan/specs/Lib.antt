@@ -15,8 +15,8 @@
 --   Answer    accepted, refused: the two kinds of answer
 --   Call      tested: tests 4 to 8 of a list. result: the tree that a list leads to. judged: tests 1 to 9. bulk:
 --             tests 1 to 10. answer, held: what a call hands back, and what the new columns then hold
---   Axes      soundness: tests 1 and 2. parent, firstChild, nextSibling, subtree, walkStart, step: the axes on raw
---             columns. parentIn, .. : the tree's own relations
+--   Lent      Lent: a list as it is lent, five columns. level: are they equally long? list: its records
+--   Axes      parent, first child, next sibling and subtree on raw columns, as the paper says them
 --   Mapping   fate: what became of an old row. originAt: which row a new one was. queried: the tests of both mappings.
 --             come, left, taken: the paper's formula for the new number of an old row
 --   Cases     cases A to L of the worked plan
@@ -30,6 +30,7 @@ pub mod Paint
 pub mod Records
 pub mod Answer
 pub mod Call
+pub mod Lent
 pub mod Axes
 pub mod Mapping
 pub mod Cases

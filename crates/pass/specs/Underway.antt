@@ -1,0 +1,73 @@
+-- How the pass goes on from record to record.
+-- Assumes nothing.
+use Prim.Native.Nat.{ℕ, _<_}
+use mathlib.Core.Bool.{cond}
+use mathlib.Core.List.{List, [], _∷_}
+use lib.Dec.{eqb}
+use lib.ListN.{length, set}
+use Rattle.plan.specs.declared.Record.{Record}
+use Rattle.plan.specs.declared.Before.{Before}
+use Rattle.plan.specs.Tree.{relabel}
+use Rattle.plan.specs.Table.{Table, table}
+use Rattle.plan.specs.Paint.{old, plan, bare}
+use Rattle.plan.specs.Call.{result}
+use Rattle.plan.proofs.Kit.{All}
+use Rattle.plan.proofs.Tested.{PassAll}
+use Rattle.plan.proofs.Pass.{skip}
+use Rattle.plan.proofs.Machine.{State, Reach, done}
+use Rattle.plan.proofs.Values.{values}
+use Rattle.moves.specs.declared.Cursor.{Cursor}
+use Rattle.walk.specs.Walk.{stateOf, Stands, Kept}
+use Rattle.pass.specs.Asked.{Given, Answered}
+
+-- the root gets another value
+abbrev pub renamed : Table → ℕ → Table
+renamed u v = table (u .dist) (u .size) (set (u .value) 0 v)
+
+-- the machine's state when a record that renames the root is done, and those that are lost are dropped
+abbrev pub onward : Table → Table → Cursor → List Record → State
+onward i u c [] = stateOf u c []
+onward i u c (r ∷ rs) =
+    cond (eqb (r .location) 0) (stateOf (renamed u (r .value)) c (skip (c .gone) (c .till) (values i rs)))
+    (stateOf u c (skip (c .gone) (c .till) (values i (r ∷ rs))))
+
+abbrev pub behindFirst : List Record → List Record
+behindFirst [] = []
+behindFirst (r ∷ rs) = rs
+
+-- the end: the columns of the result
+abbrev pub goal : Table → Table → List Record → State
+goal t i l = done (length (t .size)) (relabel bare (result t i l))
+
+-- the pass over the list l, into the columns w, has come to the cursor c and the columns u, and the records rs are left
+pub record Underway (t i : Table) (l : List Record) (w u : Table) (c : Cursor) (rs : List Record) : Type 0 where
+  pub given : Given t i l w
+  pub before : Before
+  pub passes : PassAll (plan old t) i before rs
+  pub past-root : All (λ r. 0 < r .location) (behindFirst rs)
+  pub stands : Stands t u c
+  pub kept : Kept (c .out) w u
+  pub reach : Reach t (onward i u c rs) (goal t i l)
+
+-- some list goes on with the record r
+pub record Next (t i u : Table) (c : Cursor) (r : Record) : Type 0 where
+  pub list : List Record
+  pub new : Table
+  pub rest : List Record
+  pub underway : Underway t i list new u c (r ∷ rest)
+
+-- every list that went on with r goes on behind it
+pub record Taken (t i u : Table) (c : Cursor) (r : Record) (u′ : Table) (c′ : Cursor) : Type 0 where
+  pub onward : (l : List Record) (w : Table) (rs : List Record)
+      → Underway t i l w u c (r ∷ rs) → Underway t i l w u′ c′ rs
+
+-- some list is at its end
+pub record Last (t u : Table) (c : Cursor) : Type 0 where
+  pub insertions : Table
+  pub list : List Record
+  pub new : Table
+  pub underway : Underway t insertions list new u c []
+
+-- every list that was at its end is done
+pub record Finished (t u : Table) (c : Cursor) (u′ : Table) (n : ℕ) : Type 0 where
+  pub answered : (i : Table) (l : List Record) (w : Table) → Underway t i l w u c [] → Answered t i l w u′ n

@@ -1,0 +1,161 @@
+-- The machine between two changes: a row is closed, a row is opened, or a subtree that no change is for is copied
+-- whole.
+-- Assumes nothing.
+use Prim.Native.Nat.{ℕ, zero, suc, _+_, _-_, _≤_, _<_}
+use native.Mathlib.Omega.{arith}
+use mathlib.Core.Path.{_≡_, refl, sym, ap, _∙_, subst}
+use mathlib.Core.Bool.{false}
+use mathlib.Core.List.{List, [], _∷_}
+use lib.Dec.{eqb, eqb→eq}
+use lib.ListN.{length}
+use borrow.Author.Tests.{eq-eqb, ne-eqb}
+use Rattle.plan.specs.Tree.{Forest, none, tree, count}
+use Rattle.plan.specs.Table.{Table}
+use Rattle.plan.specs.Change.{Change, insert, act}
+use Rattle.plan.specs.Open.{distAt, sizeAt}
+use Rattle.plan.proofs.Kit.{false-of, T-and}
+use Rattle.plan.proofs.Standing.{location, mine}
+use Rattle.plan.proofs.Pass.{Pass, arrivals, both, turn, pass}
+use Rattle.plan.proofs.Sound.{TreeOf}
+use Rattle.plan.proofs.Stretch.{_⧺_, rows, rows-assoc, rows-beside}
+use Rattle.plan.proofs.Machine.{State, state, state-eq, valueAt, sized, opened, closed, step, steps, Reach, reach-steps}
+use Rattle.plan.proofs.MachineForest.{Good, after, Old, walks}
+use Rattle.plan.proofs.MachineTable.{root-size}
+use Rattle.plan.proofs.Line.{Child, line-old, line-below, line-room}
+
+-- ---- the pass over a forest whose rows all lie before the next change
+abbrev Far : ℕ → List (Change ℕ) → Type 0
+Far n [] = Unit {0}
+Far n (c ∷ cs) = n < location c
+
+far-less : (m n : ℕ) (cs : List (Change ℕ)) → m ≤ n → Far n cs → Far m cs
+far-less m n [] h f = tt
+far-less m n (c ∷ cs) h f = omega arith
+
+no-insert : (b u p q : ℕ) (s : Forest ℕ) → b < p → mine b u (insert p q s) ≡ false
+no-insert b u p q s h =
+    false-of (mine b u (insert p q s)) (λ t. omega (arith, eqb→eq p b (T-and (eqb p b) (eqb (suc q) u) t .0)))
+
+arrivals-far : (b u : ℕ) (go : Pass ℕ) (cs : List (Change ℕ)) → Far b cs → arrivals b u go cs ≡ go cs
+unfolding arrivals
+arrivals-far b u go [] h = refl
+arrivals-far b u go (act p x ∷ cs) h = refl
+arrivals-far b u go (insert p q s ∷ cs) h = rw (no-insert b u p q s h)
+
+turn-far : (b a : ℕ) (S : List (Change ℕ) → List (Change ℕ)) (K R : Pass ℕ) (cs : List (Change ℕ)) → Far b cs
+    → turn b a S K R cs ≡ both a K R cs
+turn-far b a S K R [] h = refl
+turn-far b a S K R (insert p q s ∷ cs) h = refl
+turn-far b a S K R (act p x ∷ cs) h = rw (ne-eqb p b (omega arith))
+
+both-far : (a : ℕ) (K R : Pass ℕ) (k r : Forest ℕ) (cs : List (Change ℕ)) → K cs ≡ (k, cs) → R cs ≡ (r, cs)
+    → both a K R cs ≡ (tree a k r, cs)
+both-far a K R k r cs e w = rw (e, w)
+
+pass-far : (b u n : ℕ) (f : Forest ℕ) (cs : List (Change ℕ)) → n ≡ b + count f → Far n cs → pass b u f cs ≡ (f, cs)
+unfolding pass
+pass-far b u n none cs e h = arrivals-far b u (λ ds. (none, ds)) cs (far-less b n cs (omega arith) h)
+pass-far b u n (tree a k r) cs e h =
+    let m : ℕ = suc b + count k in
+    let near = far-less b n cs (omega arith) h in
+    arrivals-far b u _ cs near
+    ∙ (turn-far b a _ _ _ cs near
+    ∙ both-far a (λ ds. pass (suc b) (suc b) k ds) (λ ds. pass m u r ds) k r cs
+    (pass-far (suc b) (suc b) m k cs refl (far-less m n cs (omega arith) h)) (pass-far m u n r cs (omega arith) h))
+
+-- ---- on the way to the place of the next change
+-- it is made where row p is next and q is open; no change is for a row before `limit`. No change left: on to the end
+abbrev pub Aim : Table → (p q limit : ℕ) → List (Change ℕ) → Type 0
+Aim t p q limit [] = (p ≡ length (t .size)) × (q ≡ 0)
+Aim t p q limit (insert p′ q′ s ∷ cs) = (p′ ≡ p) × (q′ ≡ q) × (limit ≡ p)
+Aim t p q limit (act p′ x ∷ cs) = (p′ ≡ p) × (p ≡ q + distAt t p) × (limit ≡ p)
+
+-- row i is next and r is open, and that is not the place
+abbrev pub Away : (p q i r : ℕ) → Type 0
+Away p q i r = i ≡ p → r ≡ q → ⊥
+
+not-mine : (p q i r p′ q′ : ℕ) (s : Forest ℕ) → p′ ≡ p → q′ ≡ q → Away p q i r → mine i (suc r) (insert p′ q′ s) ≡ false
+not-mine p q i r p′ q′ s e w v =
+    false-of (mine i (suc r) (insert p′ q′ s))
+    (λ t.
+    let y = T-and (eqb p′ i) (eqb (suc q′) (suc r)) t in
+    let m = eqb→eq p′ i (y .0) in
+    let n = eqb→eq (suc q′) (suc r) (y .1) in
+    v (omega arith) (omega arith))
+
+module _ (t : Table) where
+  module _ (p q limit i r : ℕ) (v : Away p q i r) where
+    pub step-close : (o j : ℕ) (u : Table) (cs : List (Change ℕ)) → Aim t p q limit cs → i ≡ r + sizeAt t r
+        → step t (state i o r j u cs) ≡ closed t (state i o r j u cs)
+    unfolding step
+    step-close o j u [] h e = rw (eq-eqb i (r + sizeAt t r) e)
+    step-close o j u (act p′ x ∷ cs) h e = rw (eq-eqb i (r + sizeAt t r) e)
+    step-close o j u (insert p′ q′ s ∷ cs) h e =
+        rw (not-mine p q i r p′ q′ s (h .0) (h .1) v, eq-eqb i (r + sizeAt t r) e)
+
+    pub step-open : (o j : ℕ) (u : Table) (cs : List (Change ℕ)) → Aim t p q limit cs → (i ≡ r + sizeAt t r → ⊥)
+        → r < i → distAt t i ≡ i - r → step t (state i o r j u cs) ≡ opened (state i o r j u cs) (valueAt t i) cs
+    unfolding step
+    step-open o j u [] h e l d = rw (ne-eqb i (r + sizeAt t r) e)
+    step-open o j u (act p′ x ∷ cs) h e l d =
+        let n : p′ ≡ i → ⊥ = λ w.
+        let m : i ≡ p = omega arith in
+        v m (omega (arith, ap (λ (z : ℕ). distAt t z) m)) in
+        rw (ne-eqb i (r + sizeAt t r) e, ne-eqb p′ i n)
+    step-open o j u (insert p′ q′ s ∷ cs) h e l d =
+        rw (not-mine p q i r p′ q′ s (h .0) (h .1) v, ne-eqb i (r + sizeAt t r) e)
+
+  -- behind the root's last row a change that is not for there has no place
+  stays : (p q limit i : ℕ) → Away p q i 0 → i ≡ 0 + sizeAt t 0 → (n o j : ℕ) (u : Table) (cs : List (Change ℕ))
+      → Aim t p q limit cs → steps t n (state i o 0 j u cs) .left ≡ cs
+  stays p q limit i v e zero o j u cs h = refl
+  stays p q limit i v e (suc n) o j u cs h =
+      let z : 0 - distAt t 0 ≡ 0 = omega arith in
+      let j′ : ℕ = j - distAt u j in
+      let y : step t (state i o 0 j u cs) ≡ state i o 0 j′ (sized u j (o - j)) cs =
+      step-close p q limit i 0 v o j u cs h e ∙ state-eq refl refl z refl refl in
+      ap (λ (s : State). steps t n s .left) y ∙ stays p q limit i v e n o j′ (sized u j (o - j)) cs h
+
+  pub not-root : (p q limit i r : ℕ) → TreeOf t → Away p q i r → i ≡ r + sizeAt t r
+      → (o j : ℕ) (u : Table) (cs : List (Change ℕ)) → Aim t p q limit cs
+      → (s : State) → Reach t (state i o r j u cs) s → s .left ≡ [] → r ≡ 0 → ⊥
+  not-root p q limit i r h v e o j u [] a s m w z =
+      v (omega (arith, root-size h, ap (λ (y : ℕ). sizeAt t y) z)) (omega arith)
+  not-root p q limit i r h v e o j u (c ∷ cs) a s m w z =
+      let n = reach-steps t m in
+      let y : steps t (n .0) (state i o 0 j u (c ∷ cs)) .left ≡ c ∷ cs =
+      stays p q limit i (subst (Away p q i) z v) (subst (λ (x : ℕ). i ≡ x + sizeAt t x) z e) (n .0) o j u (c ∷ cs) a in
+      let f : steps t (n .0) (state i o r j u (c ∷ cs)) .left ≡ c ∷ cs =
+      subst (λ (x : ℕ). steps t (n .0) (state i o x j u (c ∷ cs)) .left ≡ c ∷ cs) (sym z) y in
+      let k : [] ≡ c ∷ cs = sym w ∙ (sym (ap (λ (x : State). x .left) (n .1)) ∙ f) in
+      let b : _≡_ {A = ℕ} 0 1 = cc in
+      omega arith
+
+  far : (p q limit n : ℕ) (cs : List (Change ℕ)) → Aim t p q limit cs → n < limit → Far n cs
+  far p q limit n [] h l = tt
+  far p q limit n (insert p′ q′ s ∷ cs) h l = omega arith
+  far p q limit n (act p′ x ∷ cs) h l = omega arith
+
+  -- a row and its subtree, alone
+  pub old-alone : (b q a : ℕ) (k r : Forest ℕ) → Old t b q (tree a k r) → Old t b q (tree a k none)
+  old-alone b q a k r h =
+      let d : ℕ = b - q + suc (count k) in
+      let f : Forest ℕ = tree a k none in
+      record {
+        behind = rows d r ⧺ h .behind;
+        is = h .is
+            ∙ (ap (λ (v : Table). v ⧺ h .behind) (sym (rows-beside (b - q) d f r (omega arith)))
+            ∙ rows-assoc (rows (b - q) f) (rows d r) (h .behind));
+      }
+
+  -- a subtree that no change is for
+  pub block-reach : {u : Table} {i q j : ℕ} (o : ℕ) (v : Table) (cs : List (Change ℕ)) (p z limit : ℕ) → TreeOf t
+      → (h : Child t u i q j) → Aim t p z limit cs → i + sizeAt t i < limit → Good o j v
+      → Reach t (state i o q j v cs) (after (i + suc (count (h .kids))) o q j v (tree (h .value) (h .kids) none, cs))
+  block-reach {i = i} {q = q} {j = j} o v cs p z limit s h m l g =
+      let f : Forest ℕ = tree (h .value) (h .kids) none in
+      let n : ℕ = i + count f in
+      let e : n ≡ i + suc (count (h .kids)) = omega arith in
+      let w = walks t i q f (line-below (h .line)) (old-alone i q (h .value) (h .kids) (h .rest) (line-old (h .line)))
+      (omega (arith, line-room s (h .line))) j o v cs g in
+      rw (pass-far i (suc q) n f cs refl (far p z limit n cs m (omega (arith, h .size))), e) at w

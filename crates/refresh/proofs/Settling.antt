@@ -1,0 +1,116 @@
+-- The bulk call, case by case: which test decides, and what is written.
+-- Assumes nothing.
+use Prim.Native.Nat.{ℕ, _≤_, _<_}
+use native.Mathlib.Omega.{arith}
+use mathlib.Core.Path.{_≡_, refl, sym, _∙_}
+use mathlib.Core.Bool.{Bool, true, false, _&&_}
+use mathlib.Core.List.{[], _∷_}
+use lib.Dec.{leb, eqb}
+use lib.ListN.{length}
+use borrow.Author.Tests.{le-leb, lt-leb}
+use Rattle.plan.specs.declared.Record.{Record}
+use Rattle.plan.specs.declared.Answer.{Answer}
+use Rattle.plan.specs.declared.Verdict.{Verdict}
+use Rattle.plan.specs.declared.Verdict.the-variants.{Passed, Failed}
+use Rattle.plan.specs.Answer.{accepted, refused}
+use Rattle.plan.specs.Tree.{count}
+use Rattle.plan.specs.Table.{Table, even}
+use Rattle.plan.specs.Call.{then, test, result, judged, bulk}
+use Rattle.plan.specs.Lent.{Lent, lent, level, listed, list}
+use Rattle.plan.proofs.Kit.{T-and, T-of, and-false}
+use Rattle.plan.proofs.Judged.{accepted-judged}
+use Rattle.judge.specs.declared.Judgement.{Judgement}
+use Rattle.judge.specs.declared.Judgement.the-variants.{Needs, Refused}
+use Rattle.judge.specs.Judgement.{published}
+use Rattle.judge.proofs.Unique.{needs-exactly, refused-exactly}
+use Rattle.pass.specs.Asked.{Asked, Answered}
+use Rattle.refresh.specs.Done.{Done}
+
+and-last : (x y z : Bool) → z ≡ true → (x && (y && z)) ≡ (x && y)
+and-last true true z e = e
+and-last true false z e = refl
+and-last false y z e = refl
+
+-- test 1 of the new columns
+even-new : (e x y z : Bool) → z ≡ true → (e && (x && (y && z))) ≡ (e && (x && y))
+even-new true x y z w = and-last x y z w
+even-new false x y z w = refl
+
+uneven-new : (e x y z : Bool) → z ≡ false → (e && (x && (y && z))) ≡ false
+uneven-new e x y z w = and-false e (and-false x (and-false y w))
+
+module _ (t i : Table) (l : Lent) (u : Table) where
+  abbrev f : ℕ
+  f = count (result t i (list l))
+
+  abbrev verdict : Verdict
+  verdict = bulk (level l) t i (list l) u
+
+  -- nothing is written, and a refusal is handed on
+  refuses : (a p c : ℕ) → verdict ≡ Failed a p c → Done (level l) t i (list l) u (refused a p c) u
+  refuses a p c e = record { answered = rw e; columns = rw e }
+
+  pub done-uneven : (a : Answer) → even u ≡ false → a ≡ refused 1 0 0 → Done (level l) t i (list l) u a u
+  unfolding bulk judged
+  done-uneven a e g = rw g (refuses 1 0 0 (rw (uneven-new (level l) (even t) (even i) (even u) e)))
+
+  module _ (e : even u ≡ true) (j : Judgement) (g : j ≡ published t i l) where
+    -- the verdict is that of tests 1 to 9, and then of test 10
+    then-ten : verdict
+        ≡ then (judged (level l && (even t && even i)) t i (list l)) (test (leb f (length (u .size))) 10 0 f)
+    unfolding bulk
+    then-ten = rw (even-new (level l) (even t) (even i) (even u) e)
+
+    pub done-refused : (a p c : ℕ) (b : Answer) → j ≡ Refused a p c → b ≡ refused a p c
+        → Done (level l) t i (list l) u b u
+    done-refused a p c b h k =
+        rw k (refuses a p c (then-ten ∙ rw (refused-exactly t i l a p c .0 (sym g ∙ h))))
+
+    module _ (n : ℕ) (h : j ≡ Needs n) where
+      passed : (judged (level l && (even t && even i)) t i (list l) ≡ Passed) × (n ≡ f)
+      passed = needs-exactly t i l n .0 (sym g ∙ h)
+
+      pub done-short : (b : Answer) → length (u .size) < n → b ≡ refused 10 0 n → Done (level l) t i (list l) u b u
+      done-short b k m =
+          rw (m, passed .1)
+          (refuses 10 0 f (then-ten ∙ rw (passed .0, lt-leb f (length (u .size)) (omega (arith, passed .1, k)))))
+
+      pub needs-few : n ≤ 65535
+      needs-few =
+          let w = accepted-judged (level l && (even t && even i)) t i (list l) (passed .0) in
+          omega (arith, passed .1, w .few-rows)
+
+      pub asked : n ≤ length (u .size) → Asked t i l u
+      asked k =
+          let w = accepted-judged (level l && (even t && even i)) t i (list l) (passed .0) in
+          record {
+            columns-level = T-and (level l) (even t && even i) (w .columns-even) .0;
+            given = record {
+              table-sound = w .table-sound;
+              passes = w .all-pass;
+              few = w .few-rows;
+              even-new = T-of (even u) e;
+              room = omega (arith, passed .1, k);
+            };
+          }
+
+      pub done-written : (m : ℕ) (b : Answer) (w : Table) → n ≤ length (u .size) → Answered t i (list l) u w m
+          → b ≡ accepted m → Done (level l) t i (list l) u b w
+      done-written m b w k q o =
+          let room = le-leb f (length (u .size)) (omega (arith, passed .1, k)) in
+          let v : verdict ≡ Passed = then-ten ∙ rw (passed .0, room) in
+          record { answered = rw (v, o, q .rows); columns = rw v (q .columns) }
+
+-- the test of the new columns is `even`
+pub new-even : (b : Bool) (u : Table)
+    → b ≡ (eqb (length (u .dist)) (length (u .size)) && eqb (length (u .value)) (length (u .size))) → b ≡ even u
+unfolding even
+new-even b u e = e
+
+-- a list of one record, as columns of one row
+pub done-single : (t i : Table) (r : Record) (u : Table) (a : Answer) (w : Table)
+    → (let l = lent (r .kind ∷ []) (r .location ∷ []) (r .parent ∷ []) (r .from ∷ []) (r .value ∷ []) in
+    Done (level l) t i (list l) u a w)
+    → Done true t i (r ∷ []) u a w
+unfolding level listed
+done-single t i r u a w h = h

@@ -1,0 +1,125 @@
+// The bulk call and the single call over plain columns: judged by the published tests, and written in one pass.
+use judge::Judgement;
+use judge::judged;
+use judge::long;
+use pass::apply;
+use plan::Answer;
+use plan::Record;
+ghost use mathlib.Core.Bool.{true};
+ghost use mathlib.Core.List.{[], _∷_};
+ghost use Rattle.plan.specs.Table.{table};
+ghost use Rattle.plan.specs.Lent.{lent, level, list};
+ghost use Rattle.refresh.specs.Done.{Done};
+
+// A list of changes, lent as columns, applied to a table. Accepted, the first rows of the new columns are the new
+// table, and the rows behind stay. Refused, nothing is written.
+pub fn bulk(
+    dist: &[u32],
+    size: &[u32],
+    value: &[u32],
+    kind: &[u32],
+    location: &[u32],
+    parent: &[u32],
+    from: &[u32],
+    values: &[u32],
+    idist: &[u32],
+    isize: &[u32],
+    ivalue: &[u32],
+    ndist: &mut [u32],
+    nsize: &mut [u32],
+    nvalue: &mut [u32],
+) -> Answer
+    ensures { λ a. ⌜ (
+        let t = table (now (dist .entry)) (now (size .entry)) (now (value .entry)) in
+        let p = now (parent .entry) in
+        let l = lent (now (kind .entry)) (now (location .entry)) p (now (from .entry)) (now (values .entry)) in
+        let i = table (now (idist .entry)) (now (isize .entry)) (now (ivalue .entry)) in
+        let u = table (now (ndist .entry)) (now (nsize .entry)) (now (nvalue .entry)) in
+        let w = table (now (ndist .exit)) (now (nsize .exit)) (now (nvalue .exit)) in
+        Done (level l) t i (list l) u a w) ⌝ }
+{
+    if !long(ndist, nvalue, nsize.len()) {
+        return Answer::refused(1, 0, 0);
+    }
+    let j = judged(
+        dist,
+        size,
+        value,
+        kind,
+        location,
+        parent,
+        from,
+        values,
+        idist,
+        isize,
+        ivalue,
+    );
+    match j {
+        Judgement::Refused(number, place, count) => Answer::refused(number, place, count),
+        Judgement::Needs(n) => {
+            if n > nsize.len() as u64 {
+                return Answer::refused(10, 0, n);
+            }
+            let rows = apply(
+                dist,
+                size,
+                value,
+                kind,
+                location,
+                parent,
+                from,
+                values,
+                idist,
+                isize,
+                ivalue,
+                ndist,
+                nsize,
+                nvalue,
+            );
+            Answer::accepted(rows as u64)
+        }
+    }
+}
+
+// One change: judged as a list of one record.
+pub fn single(
+    dist: &[u32],
+    size: &[u32],
+    value: &[u32],
+    r: Record,
+    idist: &[u32],
+    isize: &[u32],
+    ivalue: &[u32],
+    ndist: &mut [u32],
+    nsize: &mut [u32],
+    nvalue: &mut [u32],
+) -> Answer
+    ensures { λ a. ⌜ (
+        let t = table (now (dist .entry)) (now (size .entry)) (now (value .entry)) in
+        let i = table (now (idist .entry)) (now (isize .entry)) (now (ivalue .entry)) in
+        let u = table (now (ndist .entry)) (now (nsize .entry)) (now (nvalue .entry)) in
+        let w = table (now (ndist .exit)) (now (nsize .exit)) (now (nvalue .exit)) in
+        Done true t i (r ∷ []) u a w) ⌝ }
+{
+    let kind: [u32; 1] = [r.kind];
+    let location: [u32; 1] = [r.location];
+    let parent: [u32; 1] = [r.parent];
+    let from: [u32; 1] = [r.from];
+    let values: [u32; 1] = [r.value];
+    bulk(
+        dist,
+        size,
+        value,
+        &kind,
+        &location,
+        &parent,
+        &from,
+        &values,
+        idist,
+        isize,
+        ivalue,
+        ndist,
+        nsize,
+        nvalue,
+    )
+}

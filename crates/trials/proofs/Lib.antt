@@ -1,0 +1,4 @@
+pub mod Numbers
+pub mod Places
+pub mod Runs
+pub mod Trials

@@ -1,0 +1,2 @@
+-- What the tests of one record answer, and what their contracts cite.
+pub mod Trial

@@ -1,0 +1,51 @@
+-- What the tests of one record answer.
+-- Assumes nothing.
+use Prim.Native.Nat.{ℕ, zero, suc, _+_}
+use mathlib.Core.Path.{_≡_}
+use mathlib.Core.Bool.{Bool, true, false, _&&_, _||_}
+use mathlib.Core.List.{List}
+use lib.Dec.{T, leb, ltb, eqb}
+use lib.ListN.{length, getD}
+use Rattle.plan.specs.declared.Record.{Record}
+use Rattle.plan.specs.declared.Before.{Before}
+use Rattle.plan.specs.Table.{Table, table, sound, run}
+use Rattle.plan.specs.Paint.{old, plan}
+use Rattle.plan.specs.Records.{located, failing}
+use Rattle.trials.specs.declared.Trial.{Trial}
+use Rattle.trials.specs.declared.Trial.the-variants.{Passed, Failed}
+
+-- the answer of a test that passes or not, and has this number
+abbrev pub trial : Bool → ℕ → Trial
+trial true number = Passed
+trial false number = Failed number
+
+-- the answer of several tests, of which number is the first that fails, or 0
+abbrev pub outcome : ℕ → Trial
+outcome zero = Passed
+outcome (suc number) = Failed (suc number)
+
+-- the test of an open place in constant time: q ends at p, or row p is a child of q
+abbrev pub quickPlace : (dist size : List ℕ) → (p q : ℕ) → Bool
+quickPlace dist size p q =
+    eqb p (q + getD size q 0) || (ltb p (length size) && eqb (q + getD dist p 0) p)
+
+-- its columns are equally long
+pub record Even (t : Table) : Type 0 where
+  pub dists : length (t .dist) ≡ length (t .size)
+  pub values : length (t .value) ≡ length (t .size)
+
+-- is there a run at row f?
+abbrev pub runAt : Table → ℕ → Bool
+runAt i f =
+    let m = length (i .size) in
+    ltb f m && (leb (f + getD (i .size) f 0) m && sound (run i f))
+
+-- test 5 is answered right, whatever values make the distances and sizes a sound table
+abbrev pub RightPlace : (dist size : List ℕ) → Record → Trial → Type 0
+RightPlace dist size r t =
+    (value : List ℕ) → let u = table dist size value in T (sound u) → t ≡ trial (located (plan old u) r) 5
+
+-- tests 4 to 8 are, with the insertions i and what stands before r
+abbrev pub RightTrial : (dist size : List ℕ) → Table → Before → Record → Trial → Type 0
+RightTrial dist size i before r t =
+    (value : List ℕ) → let u = table dist size value in T (sound u) → t ≡ outcome (failing (plan old u) i before r)

@@ -1,0 +1,82 @@
+-- Moves one after the other.
+-- Assumes nothing.
+use Prim.Native.Nat.{ℕ, _≤_}
+use native.Mathlib.Omega.{arith}
+use mathlib.Core.Path.{_≡_, refl, _∙_, subst}
+use mathlib.Core.Bool.{Bool, true, false}
+use mathlib.Core.List.{List}
+use Rattle.plan.specs.Table.{Table}
+use Rattle.plan.specs.Change.{Change}
+use Rattle.plan.proofs.Stretch.{Room, later-on}
+use Rattle.plan.proofs.Machine.{State, Reach, stop, reach-trans, join}
+use Rattle.plan.proofs.MachineBetween.{Away}
+use Rattle.moves.specs.declared.Cursor.{Cursor}
+use Rattle.walk.specs.Walk.{Elsewhere, stateOf, Stands, Ends, Kept, Ready, Moved}
+
+pub away : (b : Bool) (c : Cursor) (p q : ℕ) → b ≡ true → Elsewhere b c p q → Away p q (c .row) (c .parent)
+away b c p q e h = subst (λ (x : Bool). Elsewhere x c p q) e h
+
+pub arrived : (b : Bool) (c : Cursor) (p q : ℕ) → b ≡ false → Elsewhere b c p q → (c .row ≡ p) × (c .parent ≡ q)
+arrived b c p q e h = subst (λ (x : Bool). Elsewhere x c p q) e h
+
+pub reach-eq : {t : Table} {r r′ s s′ : State} → r ≡ r′ → s ≡ s′ → Reach t r′ s′ → Reach t r s
+reach-eq e w p = rw (e, w) p
+
+-- ---- the rows behind stay
+pub room-kept : {m n : ℕ} {u u′ : Table} → Kept m u u′ → Room n u → Room n u′
+room-kept k r =
+    record {
+      dist = omega (arith, k .dist, r .dist);
+      size = omega (arith, k .size, r .size);
+      value = omega (arith, k .value, r .value);
+    }
+
+pub kept-none : (n : ℕ) (u : Table) → Kept n u u
+kept-none n u = record { later = refl; dist = refl; size = refl; value = refl }
+
+pub kept-trans : {m n : ℕ} {u v w : Table} → m ≤ n → Kept m u v → Kept n v w → Kept n u w
+kept-trans {m} {n} {u} {v} l a b =
+    record {
+      later = b .later ∙ later-on n m v u l (a .later);
+      dist = b .dist ∙ a .dist;
+      size = b .size ∙ a .size;
+      value = b .value ∙ a .value;
+    }
+
+-- ---- moves
+module _ {t u : Table} where
+  pub ends-on : {u′ : Table} {c c′ : Cursor} {m : ℕ} {cs cs′ : List (Change ℕ)} → Ends t u c cs → Kept m u u′
+      → Reach t (stateOf u c cs) (stateOf u′ c′ cs′) → Ends t u′ c′ cs′
+  ends-on e k r =
+      record {
+        target = e .target;
+        reach = join t r (e .reach) (e .fixed);
+        none-left = e .none-left;
+        fixed = e .fixed;
+        few = e .few;
+        room = room-kept k (e .room);
+      }
+
+  pub moved-none : {c : Cursor} {p q limit : ℕ} → Stands t u c → Moved t u c p q limit u c
+  moved-none {c} s = record { reach = λ cs a. stop; stands = s; kept = kept-none (c .out) u; grows = omega arith }
+
+  pub moved-trans : {u′ u″ : Table} {c c′ c″ : Cursor} {p q limit : ℕ} → Moved t u c p q limit u′ c′
+      → Moved t u′ c′ p q limit u″ c″ → Moved t u c p q limit u″ c″
+  moved-trans a b =
+      record {
+        reach = λ cs h. reach-trans t (a .reach cs h) (b .reach cs h);
+        stands = b .stands;
+        kept = kept-trans (b .grows) (a .kept) (b .kept);
+        grows = omega (arith, a .grows, b .grows);
+      }
+
+  pub ready-on : {u′ : Table} {c c′ : Cursor} {p q limit : ℕ} → Ready t u c p q limit → Moved t u c p q limit u′ c′
+      → Ready t u′ c′ p q limit
+  ready-on r m =
+      record {
+        tree-of = r .tree-of;
+        stands = m .stands;
+        left = r .left;
+        aim = r .aim;
+        ends = ends-on (r .ends) (m .kept) (m .reach (r .left) (r .aim));
+      }

@@ -1,0 +1,3 @@
+pub mod Grown
+pub mod Chain
+pub mod Steps

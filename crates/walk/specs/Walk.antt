@@ -1,0 +1,68 @@
+-- Where the pass stands in the old table t and in the new columns u, and what its moves do, in the words of the
+-- machine.
+-- Assumes nothing.
+use Prim.Native.Nat.{ℕ, _+_, _-_, _*_, _≤_, _<_}
+use mathlib.Core.Path.{_≡_}
+use mathlib.Core.Bool.{Bool, true, false}
+use mathlib.Core.List.{List, []}
+use lib.ListN.{length}
+use Rattle.plan.specs.Tree.{Forest}
+use Rattle.plan.specs.Table.{Table}
+use Rattle.plan.specs.Change.{Change}
+use Rattle.plan.proofs.Sound.{TreeOf}
+use Rattle.plan.proofs.Stretch.{firstRows, laterRows, Room}
+use Rattle.plan.proofs.Machine.{State, state, step, Reach}
+use Rattle.plan.proofs.MachineBetween.{Aim, Away}
+use Rattle.plan.proofs.Line.{Line}
+use Rattle.moves.specs.declared.Cursor.{Cursor}
+
+-- a test says whether the pass is not yet where row p is next and q is open
+abbrev pub Elsewhere : Bool → (c : Cursor) (p q : ℕ) → Type 0
+Elsewhere true c p q = Away p q (c .row) (c .parent)
+Elsewhere false c p q = (c .row ≡ p) × (c .parent ≡ q)
+
+-- ---- where the pass stands
+-- as a state of the machine: the new rows that are there, and the changes left
+unfoldable pub stateOf : Table → Cursor → List (Change ℕ) → State
+stateOf u c cs = state (c .row) (c .out) (c .parent) (c .under) (firstRows (c .out) u) cs
+
+-- the open rows are a line, and the new rows before the next are there
+pub record Stands (t u : Table) (c : Cursor) : Type 0 where
+  pub left : Forest ℕ
+  pub line : Line t u (c .row) (c .parent) (c .under) left
+  pub behind : c .under < c .out
+  pub room : Room (c .out) u
+
+-- from here the machine comes to an end, for which there is room
+pub record Ends (t u : Table) (c : Cursor) (cs : List (Change ℕ)) : Type 0 where
+  pub target : State
+  pub reach : Reach t (stateOf u c cs) target
+  pub none-left : target .left ≡ []
+  pub fixed : step t target ≡ target
+  pub few : target .out ≤ 65535
+  pub room : Room (target .out) u
+
+-- the rows from row n on stay
+pub record Kept (n : ℕ) (u u′ : Table) : Type 0 where
+  pub later : laterRows n u′ ≡ laterRows n u
+  pub dist : length (u′ .dist) ≡ length (u .dist)
+  pub size : length (u′ .size) ≡ length (u .size)
+  pub value : length (u′ .value) ≡ length (u .value)
+
+-- ---- on the way to where row p is next and q is open; no change is for a row before `limit`
+pub record Ready (t u : Table) (c : Cursor) (p q limit : ℕ) : Type 0 where
+  pub tree-of : TreeOf t
+  pub stands : Stands t u c
+  pub left : List (Change ℕ)
+  pub aim : Aim t p q limit left
+  pub ends : Ends t u c left
+
+pub record Moved (t u : Table) (c : Cursor) (p q limit : ℕ) (u′ : Table) (c′ : Cursor) : Type 0 where
+  pub reach : (cs : List (Change ℕ)) → Aim t p q limit cs → Reach t (stateOf u c cs) (stateOf u′ c′ cs)
+  pub stands : Stands t u′ c′
+  pub kept : Kept (c′ .out) u u′
+  pub grows : c .out ≤ c′ .out
+
+-- how far it is to the end
+abbrev pub ahead : Table → Cursor → ℕ
+ahead t c = (length (t .size) - c .row) * 65536 + c .parent

@@ -1,0 +1,3 @@
+pub mod Meet
+pub mod Told
+pub mod Follow

@@ -1,29 +1,27 @@
--- The tests along a list that is lent as columns: at each record the tests of the whole list come to those of the rest.
+-- A list lent as columns: test 1 of its columns, its records one after another, and the exam of it record by record.
 -- Assumes nothing.
 use Prim.Native.Nat.{ℕ, zero, suc, _+_, _-_, _≤_, _<_}
 use native.Mathlib.Omega.{arith}
 use native.Mathlib.Numerals.{add-one}
-use mathlib.Core.Path.{_≡_, refl, sym, ap, _∙_}
+use mathlib.Core.Path.{_≡_, refl, sym, ap, _∙_, subst}
+use mathlib.Core.Bool.{Bool, true, false, _&&_}
 use mathlib.Core.List.{List, [], _∷_}
-use lib.Dec.{T}
+use lib.Dec.{eqb}
 use lib.ListN.{length}
-use borrow.Author.Tests.{ne-eqb}
+use borrow.Author.Tests.{eqb-true}
 use Rattle.plan.specs.declared.Record.{Record}
-use Rattle.plan.specs.declared.Before.{Before}
-use Rattle.plan.specs.declared.Before.the-variants.{Nothing, After}
-use Rattle.plan.specs.declared.Verdict.the-variants.{Passed, Failed}
-use Rattle.plan.specs.Tree.{Forest}
-use Rattle.plan.specs.Table.{Table, table, sound}
-use Rattle.plan.specs.Paint.{Painted, old, plan}
-use Rattle.plan.specs.Records.{failing}
-use Rattle.plan.specs.Call.{tested}
-use Rattle.plan.specs.Lent.{Lent, recordAt, listed, list}
-use Rattle.trials.specs.declared.Trial.{Trial}
-use Rattle.trials.specs.declared.Trial.the-variants.{Passed as Good, Failed as Bad}
-use Rattle.trials.specs.Trial.{outcome, RightTrial}
-use Rattle.judge.specs.Judgement.{RightVerdict}
+use Rattle.plan.specs.Table.{Table}
+use Rattle.plan.specs.Call.{judged}
+use Rattle.plan.specs.Lent.{Lent, level, recordAt, listed, list}
+use Rattle.plan.proofs.Kit.{and-false}
+use Rattle.plan.proofs.Tests.{and-true}
+use Rattle.judge.specs.declared.Judgement.{Judgement}
+use Rattle.judge.specs.declared.Judgement.the-variants.{Refused}
+use Rattle.judge.specs.declared.exam.Exam.{Exam}
+use Rattle.judge.specs.Judgement.{Level, published}
+use Rattle.judge.specs.Underway.{On, Begun, Next, Taken, Last, Finished}
 
--- ---- a list as columns
+-- ---- its records
 module _ (l : Lent) where
   pub listed-next : (j n : ℕ) → j < n → listed l j (n - j) ≡ recordAt l j ∷ listed l (j + 1) (n - (j + 1))
   unfolding listed
@@ -43,57 +41,85 @@ module _ (l : Lent) where
   listed-length j zero = refl
   listed-length j (suc n) = ap suc (listed-length (suc j) n)
 
--- ---- what the tests of a record tell
-passed-zero : (n : ℕ) (t : Trial) → t ≡ outcome n → t ≡ Good → n ≡ 0
-passed-zero zero t e w = refl
-passed-zero (suc n) t e w = let z : _≡_ {A = ℕ} 0 1 = cc in absurd (omega arith)
+-- ---- its columns
+-- two columns are n rows long
+abbrev both : List ℕ → List ℕ → ℕ → Bool
+both a b n = eqb (length a) n && eqb (length b) n
 
-failed-number : (n k : ℕ) (t : Trial) → t ≡ outcome n → t ≡ Bad k → (0 < n) × (n ≡ k)
-failed-number zero k t e w = let z : _≡_ {A = ℕ} 0 1 = cc in absurd (omega arith)
-failed-number (suc n) k t e w = (omega arith, cc)
+pairs : (w x y z : Bool) → (w && (x && (y && z))) ≡ ((w && x) && (y && z))
+pairs true x y z = refl
+pairs false x y z = refl
 
-module _ {A : Type 0} (f : Forest A) (i : Table) where
-  tested-next : (j : ℕ) (b : Before) (r : Record) (rs : List Record) → failing f i b r ≡ 0
-      → tested f i j b (r ∷ rs) ≡ tested f i (suc j) (After r) rs
-  unfolding tested
-  tested-next j b r rs e = rw e
-
-  tested-fails : (j k : ℕ) (b : Before) (r : Record) (rs : List Record) → failing f i b r ≡ k → 0 < k
-      → tested f i j b (r ∷ rs) ≡ Failed k j 0
-  unfolding tested
-  tested-fails j k b r rs e h = rw (e, ne-eqb k 0 (λ w. omega arith))
-
--- ---- along the list
-module _ (dist size : List ℕ) (i : Table) (l : Lent) where
+module _ (l : Lent) where
   abbrev n : ℕ
   n = length (l .kind)
 
-  -- the tests of the whole list are those from record j on, with b before it
-  abbrev pub Rest : ℕ → Before → Type 0
-  Rest j b =
-      (value : List ℕ) → let f = plan old (table dist size value) in T (sound (table dist size value))
-      → tested f i 0 Nothing (list l) ≡ tested f i j b (listed l j (n - j))
+  level-pairs : level l ≡ (both (l .location) (l .parent) n && both (l .from) (l .value) n)
+  unfolding level
+  level-pairs =
+      pairs (eqb (length (l .location)) n) (eqb (length (l .parent)) n) (eqb (length (l .from)) n)
+      (eqb (length (l .value)) n)
 
-  pub rest-first : Rest 0 Nothing
-  rest-first value h = ap (tested (plan old (table dist size value)) i 0 Nothing) (listed-all l n)
+  pub places-uneven : both (l .location) (l .parent) n ≡ false → level l ≡ false
+  places-uneven h = rw (level-pairs, h)
 
-  module _ (j : ℕ) (b : Before) (rest : Rest j b) where
-    pub rest-next : (r : Record) (t : Trial) → j < n → r ≡ recordAt l j → RightTrial dist size i b r t → t ≡ Good
-        → Rest (j + 1) (After r)
-    rest-next r t m e h w value s =
-        let f : Forest Painted = plan old (table dist size value) in
-        let z = passed-zero (failing f i b r) t (h value s) w in
-        rest value s
-        ∙ rw (listed-next l j n m, ← e, add-one j) (tested-next f i j b r (listed l (suc j) (n - suc j)) z)
+  pub uses-uneven : both (l .from) (l .value) n ≡ false → level l ≡ false
+  uses-uneven h = rw level-pairs (and-false (both (l .location) (l .parent) n) h)
 
-    pub rest-fails : (r : Record) (t : Trial) (k : ℕ) → j < n → r ≡ recordAt l j → RightTrial dist size i b r t
-        → t ≡ Bad k → RightVerdict dist size i l (Failed k j 0)
-    rest-fails r t k m e h w value s =
-        let f : Forest Painted = plan old (table dist size value) in
-        let z = failed-number (failing f i b r) k t (h value s) w in
-        let later : List Record = listed l (j + 1) (n - (j + 1)) in
-        sym (rest value s ∙ rw (listed-next l j n m, ← e) (tested-fails f i j k b r later (z .1) (omega arith)))
+  pub all-level : both (l .location) (l .parent) n ≡ true → both (l .from) (l .value) n ≡ true → level l ≡ true
+  all-level h k = rw (level-pairs, h, k)
 
-    pub rest-ends : n ≤ j → RightVerdict dist size i l Passed
-    unfolding tested
-    rest-ends m value s = sym (rest value s ∙ rw (listed-end l j n m))
+  pub levels : level l ≡ true → Level l
+  levels h =
+      let w = and-true (both (l .location) (l .parent) n) (both (l .from) (l .value) n) (sym level-pairs ∙ h) in
+      let p = and-true (eqb (length (l .location)) n) (eqb (length (l .parent)) n) (w .0) in
+      let u = and-true (eqb (length (l .from)) n) (eqb (length (l .value)) n) (w .1) in
+      record {
+        locations = eqb-true _ _ (p .0);
+        parents = eqb-true _ _ (p .1);
+        froms = eqb-true _ _ (u .0);
+        values = eqb-true _ _ (u .1);
+      }
+
+-- ---- the exam of it
+-- test 1 fails
+pub uneven-list : (t i : Table) (l : Lent) → level l ≡ false → Refused 1 0 0 ≡ published t i l
+unfolding judged
+uneven-list t i l h = rw h
+
+-- the exam of the list has come to e, and the records from j on are left
+pub record Left (t i : Table) (l : Lent) (e : Exam) (j : ℕ) : Type 0 where
+  pub on : On t i (list l) e (listed l j (length (l .kind) - j))
+
+module _ {t i : Table} {l : Lent} {e : Exam} where
+  -- at its beginning all are left
+  pub left-all : Begun t i (length (l .kind)) e → Left t i l e 0
+  left-all h =
+      let w = h .whole (list l) (listed-length l 0 (length (l .kind))) in
+      record { on = subst (On t i (list l) e) (listed-all l (length (l .kind))) w }
+
+  module _ {j : ℕ} (h : Left t i l e j) where
+    -- record j is next, and then those behind it are left
+    module _ {r : Record} (m : j < length (l .kind)) (q : r ≡ recordAt l j) where
+      abbrev later : List Record
+      later = listed l (j + 1) (length (l .kind) - (j + 1))
+
+      there : On t i (list l) e (r ∷ later)
+      there = rw q (subst (On t i (list l) e) (listed-next l j (length (l .kind)) m) (h .on))
+
+      pub next-record : Next (t .dist) (t .size) i e r
+      next-record = record { value = t .value; list = list l; rest = later; on = there }
+
+      pub left-behind : {e′ : Exam} → Taken (t .dist) (t .size) i e r e′ → Left t i l e′ (j + 1)
+      left-behind k = record { on = k .onward (t .value) (list l) later there }
+
+    -- at its end none is
+    module _ (m : length (l .kind) ≤ j) where
+      none-left : On t i (list l) e []
+      none-left = subst (On t i (list l) e) (listed-end l j (length (l .kind)) m) (h .on)
+
+      pub last-record : Last (t .size) e
+      last-record = record { dist = t .dist; value = t .value; insertions = i; list = list l; on = none-left }
+
+      pub whole-list : {a : Judgement} → level l ≡ true → Finished (t .size) e a → a ≡ published t i l
+      whole-list w k = rw w (k .answered (t .dist) (t .value) i (list l) none-left)

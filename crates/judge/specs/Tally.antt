@@ -3,7 +3,7 @@
 use Prim.Native.Nat.{ℕ, _+_, _<_}
 use mathlib.Core.Path.{_≡_}
 use mathlib.Core.Bool.{cond}
-use mathlib.Core.List.{List}
+use mathlib.Core.List.{List, [], _∷_}
 use lib.Dec.{T}
 use Rattle.plan.specs.declared.Record.{Record}
 pub use Rattle.plan.proofs.FourKinds.{hasRun, removesRows, lostWith, brought, taken, takenFrom}
@@ -23,6 +23,11 @@ tallied size isize tally r =
 -- nothing is counted yet
 abbrev pub fresh : Tally
 fresh = record { first = 0; end = 0; comes = 0; goes = 0 }
+
+-- the count with all records of a list
+abbrev pub tallyAll : (size isize : List ℕ) → Tally → List Record → Tally
+tallyAll size isize tally [] = tally
+tallyAll size isize tally (r ∷ rs) = tallyAll size isize (tallied size isize tally r) rs
 
 -- a run of the record starts among m insertions, and the rows that it takes away among n rows
 pub record Reached (n m : ℕ) (r : Record) : Type 0 where

@@ -1,6 +1,5 @@
 // The rows that a list needs, counted record by record before anything is written: what comes and what goes.
 // A record that is lost with the rows taken away last counts nothing.
-use crate::list::record_at;
 use plan::Record;
 use trials::run::has_run;
 use trials::wide;
@@ -8,9 +7,7 @@ ghost use mathlib.Core.Path.{_≡_};
 ghost use Prim.Native.Nat.{_<_};
 ghost use lib.Dec.{T};
 ghost use lib.ListN.{length};
-ghost use Rattle.plan.specs.Lent.{lent};
 ghost use Rattle.judge.specs.Tally.{removesRows, lostWith, brought, hasRun, fresh, Reached, Small, Counted};
-ghost use Rattle.judge.specs.Judgement.{Passing, RightCount};
 
 // The rows that a delete or replace took away last, from first up to end; the rows that came and that went so far.
 pub struct Tally {
@@ -108,31 +105,4 @@ pub fn counted(tally: Tally, r: Record, size: &[u32], isize: &[u32]) -> Tally
         comes: comes,
         goes: tally.goes + s,
     }
-}
-
-// The rows that a list needs which passed the tests: the table's and those that come, less those that go.
-pub fn rows_needed(
-    size: &[u32],
-    kind: &[u32],
-    location: &[u32],
-    parent: &[u32],
-    from: &[u32],
-    values: &[u32],
-    isize: &[u32],
-) -> usize
-    requires { let l = lent (now kind) (now location) (now parent) (now from) (now values) in
-        ⌜ Passing (now size) (now isize) l ⌝ }
-    ensures { λ n.
-        let l = lent (now (kind .entry)) (now (location .entry)) (now (parent .entry))
-        (now (from .entry)) (now (values .entry)) in
-        ⌜ RightCount (now (size .entry)) (now (isize .entry)) l n ⌝ }
-{
-    let mut tally = Tally::fresh();
-    let mut j = 0;
-    while j < kind.len() {
-        let r = record_at(kind, location, parent, from, values, j);
-        tally = counted(tally, r, size, isize);
-        j += 1;
-    }
-    size.len() + tally.comes - tally.goes
 }

@@ -85,7 +85,7 @@ module _ (size isize : List ℕ) (l : Lent) (p : Passing size isize l) (x : ℕ)
   on-turn s j w h = on-told s j w (turn size isize l p s j (w .way) h)
 
   -- behind the last record
-  last-ahead : (s : Stand) (j : ℕ) → length (l .kind) ≤ j
+  pub last-ahead : (s : Stand) (j : ℕ) → length (l .kind) ≤ j
       → ahead size isize l p s j ≡ rowsOf old (s .row) (rows size isize l p - s .row)
   last-ahead s j h =
       rw (listed-end l j (length (l .kind)) h)

@@ -2,29 +2,25 @@
 -- Assumes nothing.
 use Prim.Native.Nat.{ℕ, _≤_, _<_}
 use native.Mathlib.Omega.{arith}
-use mathlib.Core.Path.{_≡_, refl, sym, _∙_}
+use mathlib.Core.Path.{_≡_, sym, _∙_}
 use mathlib.Core.Bool.{_&&_}
 use mathlib.Core.List.{List}
 use lib.ListN.{length}
 use borrow.Author.Tests.{lt-ltb, le-ltb}
-use Rattle.plan.specs.declared.Before.the-variants.{Nothing}
 use Rattle.plan.specs.declared.Verdict.{Verdict}
 use Rattle.plan.specs.declared.Verdict.the-variants.{Passed}
 use Rattle.plan.specs.Tree.{count}
 use Rattle.plan.specs.Table.{Table, even}
-use Rattle.plan.specs.Paint.{Origin, old, plan, origins}
+use Rattle.plan.specs.Paint.{Origin, origins}
 use Rattle.plan.specs.Call.{result, judged}
 use Rattle.plan.specs.Lent.{Lent, level, list}
 use Rattle.plan.specs.Mapping.{fate, originAt, queried}
 use Rattle.plan.proofs.Judged.{Accepted, accepted-judged}
-use Rattle.plan.proofs.Kit.{T-and}
-use Rattle.plan.proofs.Tested.{passes-tested}
 use Rattle.judge.specs.declared.Judgement.{Judgement}
 use Rattle.judge.specs.declared.Judgement.the-variants.{Needs, Refused}
 use Rattle.judge.specs.Judgement.{published, Passing}
 use Rattle.judge.proofs.Unique.{needs-exactly, refused-exactly}
-use Rattle.plan.proofs.Verdicts.{then-passed}
-use Rattle.judge.proofs.Judging.{judged-verdict, passing}
+use Rattle.judge.proofs.Passed.{passing}
 use Rattle.mapping.specs.declared.Became.{Became}
 use Rattle.mapping.specs.declared.Was.{Was}
 use Rattle.mapping.specs.Told.{became, was, OnRight, BackRight, OldAsked, NewAsked}
@@ -51,7 +47,7 @@ module _ (t i : Table) (l : Lent) (j : Judgement) (g : j ≡ published t i l) wh
   back-refused n x a p c h = rw (refused-exactly t i l a p c .0 (sym g ∙ h))
 
   module _ (n : ℕ) (h : j ≡ Needs n) where
-    passed : (judgedList ≡ Passed) × (n ≡ f)
+    pub passed : (judgedList ≡ Passed) × (n ≡ f)
     passed = needs-exactly t i l n .0 (sym g ∙ h)
 
     -- refused by the test of the row
@@ -65,28 +61,14 @@ module _ (t i : Table) (l : Lent) (j : Judgement) (g : j ≡ published t i l) wh
     unfolding queried
     back-outside y x k e = rw (passed .0, le-ltb x f (omega (arith, passed .1)))
 
-    tests : Accepted (level l && (even t && even i)) t i (list l)
+    pub tests : Accepted (level l && (even t && even i)) t i (list l)
     tests = accepted-judged (level l && (even t && even i)) t i (list l) (passed .0)
 
     -- the list passed on this very table
-    abbrev whole : Passing (t .size) (i .size) l
-    whole =
-        let before = then-passed _ _ (sym (judged-verdict t i l) ∙ passed .0) in
-        let columns = passing t i l _ refl (before .0) in
-        let even-both = T-and (level l) (even t && even i) (tests .columns-even) .1 in
-        record {
-          table = t;
-          insertions = i;
-          sizes = refl;
-          run-sizes = refl;
-          table-sound = tests .table-sound;
-          insertions-even = T-and (even t) (even i) even-both .1;
-          list-level = columns .list-level;
-          few = columns .few;
-          passed = passes-tested (plan old t) i 0 Nothing (list l) (tests .all-pass);
-        }
+    abbrev pub whole : Passing (t .size) (i .size) l
+    whole = passing t i l tests
 
-    few-rows : f ≤ 65535
+    pub few-rows : f ≤ 65535
     few-rows = tests .few-rows
 
     pub old-asked : (y : ℕ) → y < length (t .size) → OldAsked (t .size) (i .size) l y

@@ -36,7 +36,7 @@ use Rattle.plan.proofs.Following.{spliced}
 use Rattle.judge.specs.Judgement.{Passing}
 use Rattle.judge.specs.Tally.{lostWith, hasRun, brought, taken, takenFrom, Reached}
 use Rattle.judge.proofs.Listing.{listed-next, listed-all}
-use Rattle.judge.proofs.Tallies.{reached-at}
+use Rattle.judge.proofs.Passed.{passing-reaches}
 use Rattle.mapping.specs.declared.meet.Stand.{Stand}
 use Rattle.mapping.specs.declared.meet.Meeting.{Meeting}
 use Rattle.mapping.specs.declared.meet.Meeting.the-variants.{Nothing, Here}
@@ -100,10 +100,13 @@ module _ (size isize : List ℕ) (l : Lent) (p : Passing size isize l) where
     pub in-list : j ≤ length (l .kind)
 
   -- it stands at a row of the table, or behind the last
+  pub way-inside : (s : Stand) (j : ℕ) → Way s j → s .row ≤ rows
+  way-inside s j w =
+      chain-most tree (s .row) rows (Left tree runsFrom rows (p .insertions-even) (s .first) (s .end) j (rest j))
+      (w .goes)
+
   pub way-low : (s : Stand) (j : ℕ) → Way s j → s .row ≤ 65535
-  way-low s j w =
-      let cs = Left tree runsFrom rows (p .insertions-even) (s .first) (s .end) j (rest j) in
-      omega (arith, chain-most tree (s .row) rows cs (w .goes), rows-few (p .table) (p .table-sound))
+  way-low s j w = omega (arith, way-inside s j w, rows-few (p .table) (p .table-sound))
 
   pub way-few : (s : Stand) (j : ℕ) → Way s j → s .out < 4294967296
   way-few s j w = omega (arith, w .few, w .in-list, p .few)
@@ -170,7 +173,7 @@ module _ (size isize : List ℕ) (l : Lent) (p : Passing size isize l) where
     goes-here = rw next-rest at (w .goes)
 
     pub reached : Reached (length size) (length isize) r
-    reached = reached-at p j r m refl
+    reached = passing-reaches p r (all-pass .0 .in-place) (all-pass .0 .run-sound)
 
     pub meets : Meets size isize s r
     meets =

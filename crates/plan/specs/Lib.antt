@@ -18,7 +18,8 @@
 --   Lent      Lent: a list as it is lent, five columns. level: are they equally long? list: its records
 --   Axes      parent, first child, next sibling and subtree on raw columns, as the paper says them
 --   Mapping   fate: what became of an old row. originAt: which row a new one was. queried: the tests of both mappings.
---             come, left, taken: the paper's formula for the new number of an old row
+--             newNumbers, recordOf, rowOf: both as whole columns; mapped: the tests of these calls; columnHeld: what a
+--             lent column then holds. come, left, taken: the paper's formula for the new number of an old row
 --   Cases     cases A to L of the worked plan
 --
 -- Names of the code's own types (Record, Before, Verdict, Answer) stand under `declared`.

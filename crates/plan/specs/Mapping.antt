@@ -1,12 +1,13 @@
 -- The two mappings of row numbers, told by the paint: which new row an old row became, and which row a new one was.
 -- Assumes nothing.
-use Prim.Native.Nat.{ℕ, suc, _+_}
+use Prim.Native.Nat.{ℕ, zero, suc, _+_}
 use mathlib.Core.Bool.{Bool, false, cond, _&&_, _||_}
-use mathlib.Core.List.{List, [], _∷_}
+use mathlib.Core.List.{List, [], _∷_, _++_}
 use lib.Dec.{leb, ltb, eqb}
-use lib.ListN.{getD}
+use lib.ListN.{length, drop, getD}
 use Rattle.plan.specs.declared.Record.{Record}
 use Rattle.plan.specs.declared.Verdict.{Verdict}
+use Rattle.plan.specs.declared.Verdict.the-variants.{Passed, Failed}
 use Rattle.plan.specs.Tree.{Forest, count, sizes}
 use Rattle.plan.specs.Table.{Table, even}
 use Rattle.plan.specs.Change.{delete, rename, replace, Change, insert, act, location, removes}
@@ -31,6 +32,38 @@ originAt os r = getD os r (old 0)
 -- the tests of both mappings: 1 to 9, then 11 for a row number that is not below n
 unfoldable pub queried : Bool → Table → Table → List Record → (n r : ℕ) → Verdict
 queried evens t i l n r = then (judged (evens && (even t && even i)) t i l) (test (ltb r n) 11 r 0)
+
+-- ---- whole columns
+-- the number that stands for no row, and for no record
+abbrev pub mark : ℕ
+mark = 4294967295
+
+abbrev pub number : Fate → ℕ
+number (row r) = r
+number gone = mark
+
+-- the new numbers of n old rows, from row r on
+abbrev pub newNumbers : List Origin → (n r : ℕ) → List ℕ
+newNumbers os zero r = []
+newNumbers os (suc n) r = number (fate os 0 r) ∷ newNumbers os n (suc r)
+
+-- an origin as two numbers: the record, and the row in its run; or no record, and the old row
+abbrev pub recordOf : Origin → ℕ
+recordOf (old r) = mark
+recordOf (new k i) = k
+
+abbrev pub rowOf : Origin → ℕ
+rowOf (old r) = r
+rowOf (new k i) = i
+
+-- the tests of both calls: 1 to 9, then 10 for lent columns of less than the n rows needed
+unfoldable pub mapped : Bool → Table → Table → List Record → (n room : ℕ) → Verdict
+mapped evens t i l n room = then (judged (evens && (even t && even i)) t i l) (test (leb n room) 10 0 n)
+
+-- what a lent column then holds: these numbers first, and the rows behind stay
+abbrev pub columnHeld : Verdict → List ℕ → List ℕ → List ℕ
+columnHeld Passed xs u = xs ++ drop (length xs) u
+columnHeld (Failed number place count) xs u = u
 
 -- ---- the paper's formula
 module _ {A : Type 0} where

@@ -9,6 +9,11 @@ pub struct OldPre(pub u32);
 // A row number of the table as it is after a list.
 pub struct NewPre(pub u32);
 
+impl NewPre {
+    // stands in a column of new row numbers where the old row is gone: no row has it
+    pub const GONE: u32 = 4294967295;
+}
+
 // One record of a list. What a kind doesn't use is not read.
 pub struct Record {
     pub kind: u32,
@@ -29,6 +34,8 @@ impl Record {
     pub const REPLACE: u32 = 4;
     // how many records a list may have
     pub const MOST: usize = 1024;
+    // stands in a column of record numbers where the new row was an old one: no record has it
+    pub const NONE: u32 = 4294967295;
 }
 
 // What stands before a record in its list.

@@ -1,41 +1,85 @@
--- `judge::judged` meets its contract.
+-- `judge::judged` meets its contract: before each record the exam is on, with the records from there on left.
+use native.Mathlib.Omega.{arith}
+use Prim.Native.Nat.{_-_}
+use mathlib.Core.Path.{sym, _∙_}
 use borrow.Author.Needs.{needs}
-use Rattle.judge.proofs.Judging.{judged-refused, judged-needs, passing}
+use borrow.Author.Tests.{not-true, not-false}
+use lib.ListN.{length}
+use Rattle.plan.specs.Table.{table}
+use Rattle.plan.specs.Lent.{lent}
+use Rattle.judge.proofs.Listing.{levels, uneven-list, Left, left-all, next-record, left-behind, last-record, whole-list}
 use Rattle.judge.proofs.judged.Statement.{statement}
 use Rattle.judge.proofs.judged.Tie as tie
 
-tested-requires : tie.Need-tested-requires
-tested-requires c κs = search needs
+abbrev Inv-loop : tie.InvT-loop
+Inv-loop dist size value kind location parent from values idist isize ivalue e₀ j₀ e j =
+    Left (table dist size value) (table idist isize ivalue) (lent kind location parent from values) e j
 
-enum-known-v : tie.Need-enum-known-v
-enum-known-v c = search needs
+abbrev μ-loop : tie.MeasureT-loop
+μ-loop dist size value kind location parent from values idist isize ivalue e₀ j₀ e j = length kind - j
 
-enum-told : tie.Need-enum-told
-enum-told c = search needs
+is-level-requires : tie.Need-is-level-requires Inv-loop μ-loop
+is-level-requires c κs = search needs
 
-rows-needed-requires : tie.Need-rows-needed-requires
-rows-needed-requires c κs = passing _ _ _ _ (c .before .before .tested .ensures) (c .enum-told .given .1)
+returns : tie.Need-returns Inv-loop μ-loop
+returns c = uneven-list _ _ _ (sym (c .before .is-level .ensures) ∙ not-true _ (c .if1 .taken))
 
-test-rows-requires : tie.Need-test-rows-requires
-test-rows-requires c κs = search needs
+begin-requires : tie.Need-begin-requires Inv-loop μ-loop
+begin-requires c κs = search needs
 
-returns : tie.Need-returns
-returns c = judged-refused _ _ _ _ _ _ _ (c .before .before .before .tested .ensures) (c .before .v .given .1)
+loop-holds : tie.Need-loop-holds Inv-loop μ-loop
+loop-holds c = left-all (c .begin .ensures)
 
-returns-2 : tie.Need-returns-2
+record-at-requires : tie.Need-record-at-requires Inv-loop μ-loop
+record-at-requires c κs =
+    let level = c .before .before .before in
+    (levels _ (sym (level .before .is-level .ensures) ∙ not-false _ (level .if1 .left)), c .loop-test .taken)
+
+next-requires : tie.Need-next-requires Inv-loop μ-loop
+next-requires c κs =
+    let turn = c .before in
+    next-record (turn .before .loop .inv) (turn .loop-test .taken) (c .record-at .ensures)
+
+add-j : tie.Need-add-j Inv-loop μ-loop
+add-j c =
+    let turn = c .before .before in
+    let asked = turn .before .before .before .before .before in
+    let start = asked .before .before .before .before .before .before .before .before .before .before .before in
+    omega (arith, turn .loop-test .taken, start .good .1 .1 .1 .0 .0)
+
+loop-less : tie.Need-loop-less Inv-loop μ-loop
+loop-less c = omega arith
+
+loop-again : tie.Need-loop-again Inv-loop μ-loop
+loop-again c =
+    let read = c .before in
+    let turn = read .before in
+    left-behind (turn .before .loop .inv) (turn .loop-test .taken) (read .record-at .ensures) (c .next .ensures)
+
+end-requires : tie.Need-end-requires Inv-loop μ-loop
+end-requires c κs = last-record (c .before .loop .inv) (c .loop-test .left)
+
+returns-2 : tie.Need-returns-2 Inv-loop μ-loop
 returns-2 c =
-    let passed = c .before .before in
-    judged-needs _ _ _ _ _ _ (passed .before .before .tested .ensures) (passed .enum-told .given .1)
-    (c .before .rows-needed .ensures) (c .test-rows .ensures)
+    let turn = c .before in
+    let level = turn .before .before .before in
+    whole-list (turn .before .loop .inv) (turn .loop-test .left)
+    (sym (level .before .is-level .ensures) ∙ not-false _ (level .if1 .left)) (c .end .ensures)
 
 pub judged-spec : {M : Type 1} → statement M
 judged-spec =
     tie.close
     (tie.spec
-    tested-requires
-    enum-known-v
-    enum-told
-    rows-needed-requires
-    test-rows-requires
+    Inv-loop
+    μ-loop
+    is-level-requires
     returns
+    begin-requires
+    loop-holds
+    record-at-requires
+    next-requires
+    add-j
+    loop-less
+    loop-again
+    end-requires
     returns-2)

@@ -1,0 +1,72 @@
+-- How the exam of a list goes on from record to record.
+-- Assumes nothing.
+use Prim.Native.Nat.{ℕ, _+_, _*_, _≤_}
+use mathlib.Core.Path.{_≡_}
+use mathlib.Core.Bool.{_&&_}
+use mathlib.Core.List.{List, [], _∷_}
+use lib.Dec.{T}
+use lib.ListN.{length}
+use Rattle.plan.specs.declared.Record.{Record}
+use Rattle.plan.specs.declared.Before.{Before}
+use Rattle.plan.specs.declared.Before.the-variants.{Nothing}
+use Rattle.plan.specs.declared.Verdict.the-variants.{Failed}
+use Rattle.plan.specs.Table.{Table, table, even, sound}
+use Rattle.plan.specs.Paint.{old, plan}
+use Rattle.plan.specs.Call.{tested, mostRecords, judged}
+use Rattle.judge.specs.declared.Judgement.{Judgement}
+use Rattle.judge.specs.declared.rows.Tally.{Tally}
+use Rattle.judge.specs.declared.exam.Exam.{Exam}
+use Rattle.judge.specs.declared.exam.Exam.the-variants.{Going, Refused}
+use Rattle.judge.specs.Tally.{tallyAll, fresh}
+use Rattle.judge.specs.Judgement.{publishedOf}
+
+-- the exam goes on: tests 1 to 3 passed, the tests of the whole list are those of the records rs that are left, behind
+-- the record before, and so is the tally. Each record passed counted less than 2³² rows
+pub record Along (t i : Table) (l : List Record) (before : Before) (tally : Tally) (passed : ℕ) (rs : List Record)
+    : Type 0 where
+  pub columns-even : T (even t && even i)
+  pub table-sound : T (sound t)
+  pub few : length l ≤ mostRecords
+  pub places : passed + length rs ≡ length l
+  pub tests : tested (plan old t) i 0 Nothing l ≡ tested (plan old t) i passed before rs
+  pub rows : tallyAll (t .size) (i .size) fresh l ≡ tallyAll (t .size) (i .size) tally rs
+  pub few-came : tally .comes ≤ 4294967296 * passed
+  pub few-went : tally .goes ≤ 4294967296 * passed
+
+-- what holds of an exam that goes on, and of one that is refused
+abbrev pub Stage : Table → Table → List Record → Exam → List Record → Type 0
+Stage t i l (Going before tally passed) rs = Along t i l before tally passed rs
+Stage t i l (Refused number place count) rs = judged (even t && even i) t i l ≡ Failed number place count
+
+-- the exam of the list l, on the table t with the insertions i, has come to e, and the records rs are left
+pub record On (t i : Table) (l : List Record) (e : Exam) (rs : List Record) : Type 0 where
+  pub stage : Stage t i l e rs
+
+-- every list of so many records is at its beginning
+pub record Begun (t i : Table) (records : ℕ) (e : Exam) : Type 0 where
+  pub whole : (l : List Record) → length l ≡ records → On t i l e l
+
+-- some list goes on with the record r, on a table with these distances and sizes
+pub record Next (dist size : List ℕ) (i : Table) (e : Exam) (r : Record) : Type 0 where
+  pub value : List ℕ
+  pub list : List Record
+  pub rest : List Record
+  pub on : On (table dist size value) i list e (r ∷ rest)
+
+-- every list that went on with r goes on behind it
+pub record Taken (dist size : List ℕ) (i : Table) (e : Exam) (r : Record) (e′ : Exam) : Type 0 where
+  pub onward : (value : List ℕ) (l rs : List Record)
+      → On (table dist size value) i l e (r ∷ rs) → On (table dist size value) i l e′ rs
+
+-- some list is at its end, on a table with these sizes
+pub record Last (size : List ℕ) (e : Exam) : Type 0 where
+  pub dist : List ℕ
+  pub value : List ℕ
+  pub insertions : Table
+  pub list : List Record
+  pub on : On (table dist size value) insertions list e []
+
+-- every list that was at its end is judged as the rules publish it
+pub record Finished (size : List ℕ) (e : Exam) (a : Judgement) : Type 0 where
+  pub answered : (dist value : List ℕ) (i : Table) (l : List Record) → let t = table dist size value in
+      On t i l e [] → a ≡ publishedOf (even t && even i) t i l

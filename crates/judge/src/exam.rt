@@ -1,0 +1,164 @@
+// The exam of a list: tests 1 to 3 before its first record, tests 4 to 8 of one record after another, test 9 behind the
+// last. Whoever has the records hands them over one at a time. Nothing is written, and no array is kept.
+use crate::Judgement;
+use crate::long;
+use crate::rows::Tally;
+use crate::rows::counted;
+use plan::Answer;
+use plan::Before;
+use plan::Record;
+use plan::Verdict;
+use table::sound;
+use trials::Trial;
+use trials::tried;
+ghost use mathlib.Core.Path.{_≡_};
+ghost use mathlib.Core.Bool.{_&&_};
+ghost use lib.Dec.{leb};
+ghost use Rattle.plan.specs.Table.{table, even, sound as soundly, mostRows};
+ghost use Rattle.plan.specs.Call.{test, mostRecords};
+ghost use Rattle.judge.specs.Judgement.{firstTests, judgement};
+ghost use Rattle.judge.specs.Underway.{Begun, Next, Taken, Last, Finished};
+
+// An exam of a list under way: the record before, what is counted so far, how many records passed; or the refusal.
+pub enum Exam {
+    Going(Before, Tally, usize),
+    Refused(u32, u32, u64),
+}
+
+// Test 1: the columns of the table and those of the insertions are equally long.
+fn test_columns(
+    dist: &[u32],
+    size: &[u32],
+    value: &[u32],
+    idist: &[u32],
+    isize: &[u32],
+    ivalue: &[u32],
+) -> Verdict
+    ensures { λ v.
+        let t = table (now (dist .entry)) (now (size .entry)) (now (value .entry)) in
+        let i = table (now (idist .entry)) (now (isize .entry)) (now (ivalue .entry)) in
+        ⌜ v ≡ test (even t && even i) 1 0 0 ⌝ }
+{
+    if !long(dist, value, size.len()) {
+        return Verdict::Failed(1, 0, 0);
+    }
+    if !long(idist, ivalue, isize.len()) {
+        return Verdict::Failed(1, 0, 0);
+    }
+    Verdict::Passed
+}
+
+// Test 2: the table is sound.
+fn test_table(dist: &[u32], size: &[u32], value: &[u32]) -> Verdict
+    ensures { λ v.
+        let t = table (now (dist .entry)) (now (size .entry)) (now (value .entry)) in
+        ⌜ v ≡ test (soundly t) 2 0 0 ⌝ }
+{
+    if !sound::is_sound(dist, size, value) {
+        return Verdict::Failed(2, 0, 0);
+    }
+    Verdict::Passed
+}
+
+// Test 3: the list has at most 1,024 records.
+fn test_length(n: usize) -> Verdict
+    ensures { λ v. ⌜ v ≡ test (leb n mostRecords) 3 0 0 ⌝ }
+{
+    if n > Record::MOST {
+        return Verdict::Failed(3, 0, 0);
+    }
+    Verdict::Passed
+}
+
+// Tests 1 to 3, in their order.
+fn first_tests(
+    records: usize,
+    dist: &[u32],
+    size: &[u32],
+    value: &[u32],
+    idist: &[u32],
+    isize: &[u32],
+    ivalue: &[u32],
+) -> Verdict
+    ensures { λ v.
+        let t = table (now (dist .entry)) (now (size .entry)) (now (value .entry)) in
+        let i = table (now (idist .entry)) (now (isize .entry)) (now (ivalue .entry)) in
+        ⌜ v ≡ firstTests t i records ⌝ }
+{
+    let columns = test_columns(dist, size, value, idist, isize, ivalue);
+    let Verdict::Passed = columns else {
+        return columns;
+    };
+    let tree = test_table(dist, size, value);
+    let Verdict::Passed = tree else {
+        return tree;
+    };
+    test_length(records)
+}
+
+// Test 9: the result has at most 65,535 rows.
+fn test_rows(n: usize) -> Judgement
+    ensures { λ a. ⌜ a ≡ judgement (test (leb n mostRows) 9 0 n) n ⌝ }
+{
+    if n > Answer::MOST_ROWS {
+        return Judgement::Refused(9, 0, n as u64);
+    }
+    Judgement::Needs(n as u64)
+}
+
+// Tests 1 to 3 of a list of so many records.
+pub fn begin(
+    records: usize,
+    dist: &[u32],
+    size: &[u32],
+    value: &[u32],
+    idist: &[u32],
+    isize: &[u32],
+    ivalue: &[u32],
+) -> Exam
+    ensures { λ e.
+        let t = table (now (dist .entry)) (now (size .entry)) (now (value .entry)) in
+        let i = table (now (idist .entry)) (now (isize .entry)) (now (ivalue .entry)) in
+        ⌜ Begun t i records e ⌝ }
+{
+    let v = first_tests(records, dist, size, value, idist, isize, ivalue);
+    match v {
+        Verdict::Failed(number, place, count) => Exam::Refused(number, place, count),
+        Verdict::Passed => Exam::Going(Before::Nothing, Tally::fresh(), 0),
+    }
+}
+
+// Tests 4 to 8 of the next record, and its count. A refused exam stays refused.
+pub fn next(
+    e: Exam,
+    r: Record,
+    dist: &[u32],
+    size: &[u32],
+    idist: &[u32],
+    isize: &[u32],
+    ivalue: &[u32],
+) -> Exam
+    requires { let i = table (now idist) (now isize) (now ivalue) in ⌜ Next (now dist) (now size) i e r ⌝ }
+    ensures { λ f. let i = table (now (idist .entry)) (now (isize .entry)) (now (ivalue .entry)) in
+        ⌜ Taken (now (dist .entry)) (now (size .entry)) i e r f ⌝ }
+{
+    let Exam::Going(before, tally, passed) = e else {
+        return e;
+    };
+    let t = tried(dist, size, idist, isize, ivalue, before, r);
+    match t {
+        Trial::Failed(number) => Exam::Refused(number, passed as u32, 0),
+        Trial::Passed => Exam::Going(Before::After(r), counted(tally, r, size, isize), passed + 1),
+    }
+}
+
+// Test 9, and the rows needed: the table's and those that come, less those that go.
+pub fn end(e: Exam, size: &[u32]) -> Judgement
+    requires { ⌜ Last (now size) e ⌝ }
+    ensures { λ a. ⌜ Finished (now (size .entry)) e a ⌝ }
+{
+    match e {
+        Exam::Refused(number, place, count) => Judgement::Refused(number, place, count),
+        Exam::Going(_, tally, _) => test_rows(size.len() + tally.comes - tally.goes),
+    }
+}

@@ -3,9 +3,11 @@ mod axes_cases;
 mod soundness_cases;
 mod told;
 mod walk_cases;
+mod walker_cases;
 
 fn main() {
     soundness_cases::all();
     axes_cases::all();
     walk_cases::all();
+    walker_cases::all();
 }

@@ -167,7 +167,7 @@ module _ (size isize : List ℕ) (l : Lent) (p : Passing size isize l) (a b : Li
     still : ahead size isize l p s j ≡ rowsOf old (s .row) (length size - s .row)
     still = last-ahead size isize l p 0 s j h ∙ ap (λ (m : ℕ). rowsOf old (s .row) (m - s .row)) (ap length (p .sizes))
 
-    all-rows : s .out + (length size - s .row) ≡ newRows p
+    pub all-rows : s .out + (length size - s .row) ≡ newRows p
     all-rows = omega (arith, w .all, ap length still, length-rows old (s .row) (length size - s .row))
 
     -- they are written, up to the end e

@@ -30,7 +30,7 @@ pub enum Back {
 }
 
 // A row number, which fits.
-fn narrow(x: usize) -> u32
+pub fn narrow(x: usize) -> u32
     requires { ⌜ x < 4294967296 ⌝ }
     ensures { λ r. ⌜ r ≡ x ⌝ }
 {

@@ -11,6 +11,7 @@ pub mod axes;
 pub mod climb;
 pub mod sound;
 pub mod walk;
+pub mod walker;
 
 // A number of a column, wide enough that no sum of rows and sizes wraps.
 fn wide(x: u32) -> usize

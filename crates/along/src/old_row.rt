@@ -1,0 +1,63 @@
+// One old row: which new row it became.
+use judge::Judgement;
+use mapping::Became;
+use mapping::meet::Stand;
+use mapping::row::On;
+use mapping::row::follow_on;
+use mapping::row::narrow;
+use plan::NewPre;
+use plan::OldPre;
+use plan::Record;
+use trials::wide;
+ghost use Rattle.along.specs.Onward.{Begun, Next, Taken, Last, Finished, rowed, anyTable};
+ghost use Rattle.along.specs.OldRow.{Stage, Right};
+
+// The row under way: it goes on, or the answer is known.
+pub enum OldRow {
+    Goes(Stand),
+    Told(Became),
+}
+
+// The tests of the list, by its judgement, and that of the row.
+pub fn begin(j: Judgement, rows: usize, row: OldPre) -> OldRow
+    ensures { λ w. ⌜ Begun (Stage (row .0)) tt (rowed rows) j w ⌝ }
+{
+    match j {
+        Judgement::Refused(number, place, count) => {
+            OldRow::Told(Became::Refused(number, place, count))
+        }
+        Judgement::Needs(_) => {
+            if wide(row.0) >= rows {
+                return OldRow::Told(Became::Refused(11, row.0, 0));
+            }
+            OldRow::Goes(Stand::start())
+        }
+    }
+}
+
+// The row at the next record.
+pub fn next(w: OldRow, r: Record, size: &[u32], isize: &[u32], row: OldPre) -> OldRow
+    requires { ⌜ Next (Stage (row .0)) (now size) (now isize) w r ⌝ }
+    ensures { λ v. ⌜ Taken (Stage (row .0)) (now (size .entry)) (now (isize .entry)) w r v ⌝ }
+{
+    let OldRow::Goes(s) = w else {
+        return w;
+    };
+    let o = follow_on(s, r, size, isize, wide(row.0));
+    match o {
+        On::Goes(goes) => OldRow::Goes(goes),
+        On::Row(m) => OldRow::Told(Became::Row(NewPre(narrow(m)))),
+        On::Gone => OldRow::Told(Became::Gone),
+    }
+}
+
+// The answer, behind the last record.
+pub fn end(w: OldRow, row: OldPre) -> Became
+    requires { ⌜ Last (Stage (row .0)) anyTable w ⌝ }
+    ensures { λ b. ⌜ Finished (Stage (row .0)) anyTable w (Right (row .0) b) ⌝ }
+{
+    match w {
+        OldRow::Told(b) => b,
+        OldRow::Goes(s) => Became::Row(NewPre(narrow(s.out + (wide(row.0) - s.row)))),
+    }
+}

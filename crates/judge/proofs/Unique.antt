@@ -19,14 +19,15 @@ use Rattle.judge.specs.Judgement.{evens, judgement, published}
 pub one-judgement : (t i : Table) (l : Lent) (a b : Judgement) → a ≡ published t i l → b ≡ published t i l → a ≡ b
 one-judgement t i l a b e w = e ∙ sym w
 
-needs-told : (v : Verdict) (r n : ℕ) → (judgement v r ≡ Needs n) ↔ ((v ≡ Passed) × (n ≡ r))
+-- a verdict as a judgement, read back
+pub needs-told : (v : Verdict) (r n : ℕ) → (judgement v r ≡ Needs n) ↔ ((v ≡ Passed) × (n ≡ r))
 needs-told Passed r n = ((λ e. (refl, cc)), (λ h. cc))
 needs-told (Failed a p c) r n = (
   (λ e. let z : _≡_ {A = ℕ} 0 1 = cc in absurd (omega arith)),
   (λ h. let z : _≡_ {A = ℕ} 0 1 = cc in absurd (omega arith)),
 )
 
-refused-told : (v : Verdict) (r a p c : ℕ) → (judgement v r ≡ Refused a p c) ↔ (v ≡ Failed a p c)
+pub refused-told : (v : Verdict) (r a p c : ℕ) → (judgement v r ≡ Refused a p c) ↔ (v ≡ Failed a p c)
 refused-told Passed r a p c = (
   (λ e. let z : _≡_ {A = ℕ} 0 1 = cc in absurd (omega arith)),
   (λ h. let z : _≡_ {A = ℕ} 0 1 = cc in absurd (omega arith)),

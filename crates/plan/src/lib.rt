@@ -15,6 +15,7 @@ impl NewPre {
 }
 
 // One record of a list. What a kind doesn't use is not read.
+#[repr(C)]
 pub struct Record {
     pub kind: u32,
     pub location: u32,
@@ -51,6 +52,7 @@ pub enum Verdict {
 }
 
 // What a call hands back: 0 or the number of the test that failed, the place at fault, and a count.
+#[repr(C)]
 pub struct Answer {
     pub number: u32,
     pub place: u32,

@@ -1,2 +1,3 @@
 pub mod Settling
+pub mod Onward
 pub mod Demands

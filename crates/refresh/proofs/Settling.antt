@@ -4,8 +4,8 @@ use Prim.Native.Nat.{ℕ, _≤_, _<_}
 use native.Mathlib.Omega.{arith}
 use mathlib.Core.Path.{_≡_, refl, sym, _∙_}
 use mathlib.Core.Bool.{Bool, true, false, _&&_}
-use mathlib.Core.List.{[], _∷_}
-use lib.Dec.{leb, eqb}
+use mathlib.Core.List.{List, [], _∷_}
+use lib.Dec.{T, leb, eqb}
 use lib.ListN.{length}
 use borrow.Author.Tests.{le-leb, lt-leb}
 use Rattle.plan.specs.declared.Record.{Record}
@@ -18,12 +18,12 @@ use Rattle.plan.specs.Table.{Table, even}
 use Rattle.plan.specs.Call.{then, test, result, judged, bulk}
 use Rattle.plan.specs.Lent.{Lent, lent, level, listed, list}
 use Rattle.plan.proofs.Kit.{T-and, T-of, and-false}
-use Rattle.plan.proofs.Judged.{accepted-judged}
+use Rattle.plan.proofs.Judged.{Accepted, accepted-judged}
 use Rattle.judge.specs.declared.Judgement.{Judgement}
 use Rattle.judge.specs.declared.Judgement.the-variants.{Needs, Refused}
-use Rattle.judge.specs.Judgement.{published}
-use Rattle.judge.proofs.Unique.{needs-exactly, refused-exactly}
-use Rattle.pass.specs.Asked.{Asked, Answered}
+use Rattle.judge.specs.Judgement.{publishedOf, published}
+use Rattle.judge.proofs.Unique.{needs-told, refused-told}
+use Rattle.pass.specs.Asked.{Given, Asked, Answered}
 use Rattle.refresh.specs.Done.{Done}
 
 and-last : (x y z : Bool) → z ≡ true → (x && (y && z)) ≡ (x && y)
@@ -39,67 +39,74 @@ even-new false x y z w = refl
 uneven-new : (e x y z : Bool) → z ≡ false → (e && (x && (y && z))) ≡ false
 uneven-new e x y z w = and-false e (and-false x (and-false y w))
 
-module _ (t i : Table) (l : Lent) (u : Table) where
+module _ (evens : Bool) (t i : Table) (l : List Record) (u : Table) where
   abbrev f : ℕ
-  f = count (result t i (list l))
+  f = count (result t i l)
 
   abbrev verdict : Verdict
-  verdict = bulk (level l) t i (list l) u
+  verdict = bulk evens t i l u
 
   -- nothing is written, and a refusal is handed on
-  refuses : (a p c : ℕ) → verdict ≡ Failed a p c → Done (level l) t i (list l) u (refused a p c) u
+  refuses : (a p c : ℕ) → verdict ≡ Failed a p c → Done evens t i l u (refused a p c) u
   refuses a p c e = record { answered = rw e; columns = rw e }
 
-  pub done-uneven : (a : Answer) → even u ≡ false → a ≡ refused 1 0 0 → Done (level l) t i (list l) u a u
+  pub done-uneven : (a : Answer) → even u ≡ false → a ≡ refused 1 0 0 → Done evens t i l u a u
   unfolding bulk judged
-  done-uneven a e g = rw g (refuses 1 0 0 (rw (uneven-new (level l) (even t) (even i) (even u) e)))
+  done-uneven a e g = rw g (refuses 1 0 0 (rw (uneven-new evens (even t) (even i) (even u) e)))
 
-  module _ (e : even u ≡ true) (j : Judgement) (g : j ≡ published t i l) where
+  module _ (e : even u ≡ true) (j : Judgement) (g : j ≡ publishedOf (evens && (even t && even i)) t i l) where
     -- the verdict is that of tests 1 to 9, and then of test 10
-    then-ten : verdict
-        ≡ then (judged (level l && (even t && even i)) t i (list l)) (test (leb f (length (u .size))) 10 0 f)
+    then-ten : verdict ≡ then (judged (evens && (even t && even i)) t i l) (test (leb f (length (u .size))) 10 0 f)
     unfolding bulk
-    then-ten = rw (even-new (level l) (even t) (even i) (even u) e)
+    then-ten = rw (even-new evens (even t) (even i) (even u) e)
 
-    pub done-refused : (a p c : ℕ) (b : Answer) → j ≡ Refused a p c → b ≡ refused a p c
-        → Done (level l) t i (list l) u b u
+    pub done-refused : (a p c : ℕ) (b : Answer) → j ≡ Refused a p c → b ≡ refused a p c → Done evens t i l u b u
     done-refused a p c b h k =
-        rw k (refuses a p c (then-ten ∙ rw (refused-exactly t i l a p c .0 (sym g ∙ h))))
+        let failed = refused-told (judged (evens && (even t && even i)) t i l) f a p c .0 (sym g ∙ h) in
+        rw k (refuses a p c (then-ten ∙ rw failed))
 
     module _ (n : ℕ) (h : j ≡ Needs n) where
-      passed : (judged (level l && (even t && even i)) t i (list l) ≡ Passed) × (n ≡ f)
-      passed = needs-exactly t i l n .0 (sym g ∙ h)
+      passed : (judged (evens && (even t && even i)) t i l ≡ Passed) × (n ≡ f)
+      passed = needs-told (judged (evens && (even t && even i)) t i l) f n .0 (sym g ∙ h)
 
-      pub done-short : (b : Answer) → length (u .size) < n → b ≡ refused 10 0 n → Done (level l) t i (list l) u b u
+      told : Accepted (evens && (even t && even i)) t i l
+      told = accepted-judged (evens && (even t && even i)) t i l (passed .0)
+
+      pub done-short : (b : Answer) → length (u .size) < n → b ≡ refused 10 0 n → Done evens t i l u b u
       done-short b k m =
           rw (m, passed .1)
           (refuses 10 0 f (then-ten ∙ rw (passed .0, lt-leb f (length (u .size)) (omega (arith, passed .1, k)))))
 
-      pub needs-few : n ≤ 65535
-      needs-few =
-          let w = accepted-judged (level l && (even t && even i)) t i (list l) (passed .0) in
-          omega (arith, passed .1, w .few-rows)
+      pub columns-even : T evens
+      columns-even = T-and evens (even t && even i) (told .columns-even) .0
 
-      pub asked : n ≤ length (u .size) → Asked t i l u
-      asked k =
-          let w = accepted-judged (level l && (even t && even i)) t i (list l) (passed .0) in
-          record {
-            columns-level = T-and (level l) (even t && even i) (w .columns-even) .0;
-            given = record {
-              table-sound = w .table-sound;
-              passes = w .all-pass;
-              few = w .few-rows;
+      module _ (k : n ≤ length (u .size)) where
+        pub given : Given t i l u
+        given =
+            record {
+              table-sound = told .table-sound;
+              passes = told .all-pass;
+              few = told .few-rows;
               even-new = T-of (even u) e;
               room = omega (arith, passed .1, k);
-            };
-          }
+            }
 
-      pub done-written : (m : ℕ) (b : Answer) (w : Table) → n ≤ length (u .size) → Answered t i (list l) u w m
-          → b ≡ accepted m → Done (level l) t i (list l) u b w
-      done-written m b w k q o =
-          let room = le-leb f (length (u .size)) (omega (arith, passed .1, k)) in
-          let v : verdict ≡ Passed = then-ten ∙ rw (passed .0, room) in
-          record { answered = rw (v, o, q .rows); columns = rw v (q .columns) }
+        pub all-passed : verdict ≡ Passed
+        all-passed = then-ten ∙ rw (passed .0, le-leb f (length (u .size)) (omega (arith, passed .1, k)))
+
+  -- what the pass wrote is the answer
+  pub done-written : verdict ≡ Passed → (m : ℕ) (b : Answer) (w : Table) → Answered t i l u w m → b ≡ accepted m
+      → Done evens t i l u b w
+  done-written v m b w q o = record { answered = rw (v, o, q .rows); columns = rw v (q .columns) }
+
+-- the pass is asked to apply a list lent as columns
+pub asked : (t i : Table) (l : Lent) (u : Table) → even u ≡ true → (j : Judgement) → j ≡ published t i l
+    → (n : ℕ) → j ≡ Needs n → n ≤ length (u .size) → Asked t i l u
+asked t i l u e j g n h k =
+    record {
+      columns-level = columns-even (level l) t i (list l) u e j g n h;
+      given = given (level l) t i (list l) u e j g n h k;
+    }
 
 -- the test of the new columns is `even`
 pub new-even : (b : Bool) (u : Table)

@@ -11,6 +11,8 @@ ghost use Rattle.plan.specs.Table.{table};
 ghost use Rattle.plan.specs.Lent.{lent, level, list};
 ghost use Rattle.refresh.specs.Done.{Done};
 
+pub mod work;
+
 // A list of changes, lent as columns, applied to a table. Accepted, the first rows of the new columns are the new
 // table, and the rows behind stay. Refused, nothing is written.
 pub fn bulk(

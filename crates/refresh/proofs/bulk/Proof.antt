@@ -1,7 +1,7 @@
 -- `refresh::bulk` meets its contract: the tests in their order, and what the pass writes.
 use mathlib.Core.Path.{sym, _∙_}
 use borrow.Author.Tests.{not-true, not-false}
-use Rattle.refresh.proofs.Settling.{done-uneven, done-short, asked, done-refused, done-written, new-even}
+use Rattle.refresh.proofs.Settling.{done-uneven, done-short, asked, done-refused, done-written, all-passed, new-even}
 use borrow.Author.Needs.{needs}
 use Rattle.refresh.proofs.bulk.Statement.{statement}
 use Rattle.refresh.proofs.bulk.Tie as tie
@@ -32,7 +32,7 @@ same-length-2 c = search needs
 -- src/lib.rt:41:9
 returns : tie.Need-returns
 returns c =
-    done-uneven _ _ _ _ _
+    done-uneven _ _ _ _ _ _
     (sym (new-even _ _ (c .before .before .long .ensures)) ∙ not-true _ (c .before .if1 .taken))
     (c .refused .ensures)
 
@@ -71,7 +71,7 @@ returns-2 c =
     let told = fits .before .before in
     let judged = told .before .before in
     let long = judged .before in
-    done-short _ _ _ _ (sym (new-even _ _ (long .before .long .ensures)) ∙ not-false _ (long .if1 .left)) _
+    done-short _ _ _ _ _ (sym (new-even _ _ (long .before .long .ensures)) ∙ not-false _ (long .if1 .left)) _
     (judged .judged .ensures) _ (told .j2 .given .1) _ (fits .if2 .taken) (c .refused3 .ensures)
 
 -- src/lib.rt:62:17
@@ -102,7 +102,7 @@ returns-3 c =
     let told = c .before .before in
     let judged = told .before .before in
     let long = judged .before in
-    done-refused _ _ _ _ (sym (new-even _ _ (long .before .long .ensures)) ∙ not-false _ (long .if1 .left)) _
+    done-refused _ _ _ _ _ (sym (new-even _ _ (long .before .long .ensures)) ∙ not-false _ (long .if1 .left)) _
     (judged .judged .ensures) _ _ _ _ (told .j .given .1) (c .refused2 .ensures)
 
 -- src/lib.rt:16:1
@@ -125,9 +125,10 @@ returns-4 c =
     let told = fits .before .before in
     let judged = told .before .before in
     let long = judged .before in
-    done-written _ _ _ _ (sym (new-even _ _ (long .before .long .ensures)) ∙ not-false _ (long .if1 .left)) _
-    (judged .judged .ensures) _ (told .j2 .given .1) _ _ _ (fits .if2 .left) (written .apply .ensures)
-    (c .accepted .ensures)
+    let even = sym (new-even _ _ (long .before .long .ensures)) ∙ not-false _ (long .if1 .left) in
+    done-written _ _ _ _ _
+    (all-passed _ _ _ _ _ even _ (judged .judged .ensures) _ (told .j2 .given .1) (fits .if2 .left)) _ _ _
+    (written .apply .ensures) (c .accepted .ensures)
 
 pub bulk-spec : {M : Type 1} → statement M
 bulk-spec =

@@ -1,0 +1,2 @@
+-- What the exported calls answer: the library's answers as structs of plain numbers.
+pub mod Handed

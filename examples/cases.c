@@ -10,12 +10,7 @@
  */
 #include <stdio.h>
 
-#include "plan.h"
-
-#define LENGTH(column) (sizeof(column) / sizeof((column)[0]))
-
-/* A column as the calls take it: the pointer, and the length in elements. */
-#define COLUMN(column) (column), LENGTH(column)
+#include "worked.h"
 
 /* A list with its name. */
 typedef struct {
@@ -25,17 +20,6 @@ typedef struct {
 } named_list;
 
 #define LIST(name, records) {name, COLUMN(records)}
-
-static const uint32_t dist[] = {1, 1, 1, 2, 4, 1, 6};
-static const uint32_t size[] = {7, 3, 1, 1, 2, 1, 1};
-static const uint32_t value[] = {10, 20, 30, 31, 21, 32, 40};
-
-static const uint32_t insert_dist[] = {1, 1, 1};
-static const uint32_t insert_size[] = {2, 1, 1};
-static const uint32_t insert_value[] = {50, 51, 60};
-
-#define TABLE COLUMN(dist), COLUMN(size), COLUMN(value)
-#define INSERTIONS COLUMN(insert_dist), COLUMN(insert_size), COLUMN(insert_value)
 
 static const plan_record list_a[] = {{PLAN_INSERT, 2, 1, 2, 0}, {PLAN_DELETE, 4, 0, 0, 0}, {PLAN_INSERT, 6, 0, 0, 0}};
 static const plan_record list_b[] = {{PLAN_DELETE, 4, 0, 0, 0}, {PLAN_INSERT, 6, 4, 2, 0}, {PLAN_INSERT, 6, 0, 0, 0}};

@@ -1,8 +1,8 @@
 // The rows that a list needs, counted record by record before anything is written: what comes and what goes.
 // A record that is lost with the rows taken away last counts nothing.
 use plan::Record;
+use plan::wide;
 use trials::run::has_run;
-use trials::wide;
 ghost use mathlib.Core.Path.{_≡_};
 ghost use Prim.Native.Nat.{_<_};
 ghost use lib.Dec.{T};

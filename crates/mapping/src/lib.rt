@@ -5,7 +5,7 @@ use judge::Judgement;
 use judge::judged;
 use plan::NewPre;
 use plan::OldPre;
-use trials::wide;
+use plan::wide;
 ghost use mathlib.Core.Path.{_≡_};
 ghost use lib.ListN.{length};
 ghost use Rattle.plan.specs.Tree.{count};

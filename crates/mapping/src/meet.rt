@@ -3,7 +3,7 @@ use judge::rows::lost;
 use judge::rows::removes_rows;
 use judge::rows::run_rows;
 use plan::Record;
-use trials::wide;
+use plan::wide;
 ghost use mathlib.Core.Path.{_≡_};
 ghost use Rattle.mapping.specs.Meet.{stand, Meets, meeting};
 

@@ -1,5 +1,6 @@
 // The small moves of the pass: rows are copied, a row is opened, closed or left out. Each says what the new columns
 // hold then. In the contracts t is the table that rows are taken from, u the new columns before, and v after.
+use plan::wide;
 ghost use mathlib.Core.Path.{_≡_};
 ghost use Prim.Native.Nat.{_+_, _-_, _<_, _≤_};
 ghost use lib.ListN.{length, getD, set};
@@ -19,12 +20,7 @@ pub struct Cursor {
     pub till: usize,
 }
 
-pub fn wide(x: u32) -> usize
-    ensures { λ r. ⌜ (r ≡ x) × (r < 4294967296) ⌝ }
-{
-    x as usize
-}
-
+// A row number, which fits.
 pub fn narrow(x: usize) -> u32
     requires { ⌜ x < 65536 ⌝ }
     ensures { λ r. ⌜ r ≡ x ⌝ }

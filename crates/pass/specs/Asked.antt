@@ -11,7 +11,6 @@ use Rattle.plan.specs.Tree.{count}
 use Rattle.plan.specs.Table.{Table, even, sound, mostRows}
 use Rattle.plan.specs.Paint.{old, plan, written}
 use Rattle.plan.specs.Call.{result, over}
-use Rattle.plan.specs.Lent.{Lent, level, list}
 use Rattle.plan.proofs.Tested.{PassAll}
 
 -- given: a sound table t, insertions i, a list l that passes tests 4 to 8, and new columns u with room for the result
@@ -26,8 +25,3 @@ pub record Given (t i : Table) (l : List Record) (u : Table) : Type 0 where
 pub record Answered (t i : Table) (l : List Record) (u v : Table) (n : ℕ) : Type 0 where
   pub rows : n ≡ count (result t i l)
   pub columns : v ≡ over (written (result t i l)) u
-
--- asked: the same of a list lent as columns
-pub record Asked (t i : Table) (c : Lent) (u : Table) : Type 0 where
-  pub columns-level : T (level c)
-  pub given : Given t i (list c) u

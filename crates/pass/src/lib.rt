@@ -6,19 +6,16 @@ use moves::leave;
 use moves::narrow;
 use moves::open;
 use moves::paste;
-use moves::wide;
 use plan::Record;
+use plan::wide;
 use walk::upto;
 ghost use mathlib.Core.Path.{_≡_};
-ghost use Prim.Native.Nat.{_+_, _<_, _≤_};
+ghost use Prim.Native.Nat.{_<_, _≤_};
 ghost use lib.ListN.{length, getD};
 ghost use Rattle.plan.specs.Table.{table};
-ghost use lib.Dec.{T};
-ghost use Rattle.plan.specs.Lent.{lent, level, recordAt, list};
 ghost use Rattle.plan.proofs.Stretch.{Room};
 ghost use Rattle.moves.specs.Written.{cursor, rowed};
 ghost use Rattle.pass.specs.Taking.{Under, lostRecord, Due, Done};
-ghost use Rattle.pass.specs.Asked.{Asked, Answered};
 ghost use Rattle.pass.specs.Underway.{Next, Taken, Last, Finished};
 
 // No old rows are gone.
@@ -207,84 +204,4 @@ pub fn begin(a: u32, ndist: &mut [u32], nsize: &mut [u32], nvalue: &mut [u32]) -
         gone: 0,
         till: 0,
     }
-}
-
-// Record j of a list lent as columns; `to` is its value column.
-fn record_at(
-    kind: &[u32],
-    location: &[u32],
-    parent: &[u32],
-    from: &[u32],
-    to: &[u32],
-    j: usize,
-) -> Record
-    requires { ⌜ (
-        let l = lent (now kind) (now location) (now parent) (now from) (now to) in
-        T (level l) × (j < length (now kind))) ⌝ }
-    ensures { λ r. ⌜ (
-        let p = now (parent .entry) in
-        let l = lent (now (kind .entry)) (now (location .entry)) p (now (from .entry)) (now (to .entry)) in
-        r ≡ recordAt l j) ⌝ }
-{
-    Record {
-        kind: kind[j],
-        location: location[j],
-        parent: parent[j],
-        from: from[j],
-        value: to[j],
-    }
-}
-
-// The whole list. The answer is the number of new rows.
-pub fn apply(
-    dist: &[u32],
-    size: &[u32],
-    value: &[u32],
-    kind: &[u32],
-    location: &[u32],
-    parent: &[u32],
-    from: &[u32],
-    to: &[u32],
-    idist: &[u32],
-    isize: &[u32],
-    ivalue: &[u32],
-    ndist: &mut [u32],
-    nsize: &mut [u32],
-    nvalue: &mut [u32],
-) -> usize
-    requires { ⌜ (
-        let t = table (now dist) (now size) (now value) in
-        let i = table (now idist) (now isize) (now ivalue) in
-        let l = lent (now kind) (now location) (now parent) (now from) (now to) in
-        let u = table (now ndist) (now nsize) (now nvalue) in
-        Asked t i l u) ⌝ }
-    ensures { λ n. ⌜ (
-        let t = table (now (dist .entry)) (now (size .entry)) (now (value .entry)) in
-        let i = table (now (idist .entry)) (now (isize .entry)) (now (ivalue .entry)) in
-        let p = now (parent .entry) in
-        let l = lent (now (kind .entry)) (now (location .entry)) p (now (from .entry)) (now (to .entry)) in
-        let u = table (now (ndist .entry)) (now (nsize .entry)) (now (nvalue .entry)) in
-        let v = table (now (ndist .exit)) (now (nsize .exit)) (now (nvalue .exit)) in
-        Answered t i (list l) u v n) ⌝ }
-{
-    let mut c = begin(value[0], ndist, nsize, nvalue);
-    let mut j = 0;
-    while j < kind.len() {
-        let r = record_at(kind, location, parent, from, to, j);
-        c = one(
-            c,
-            r,
-            dist,
-            size,
-            value,
-            idist,
-            isize,
-            ivalue,
-            ndist,
-            nsize,
-            nvalue,
-        );
-        j += 1;
-    }
-    finish(c, dist, size, value, ndist, nsize, nvalue)
 }

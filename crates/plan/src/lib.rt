@@ -1,6 +1,7 @@
 // The vocabulary of the plan library: row numbers of the old and of the new table, the record of a list, what tests
 // say, the answer of a call.
 ghost use mathlib.Core.Path.{_≡_};
+ghost use Prim.Native.Nat.{_<_};
 ghost use Rattle.plan.specs.Answer.{accepted, refused};
 
 // A row number of the table as it was. Nothing but a mapping turns it into a row number of the new table.
@@ -84,4 +85,11 @@ impl Answer {
             count: count,
         }
     }
+}
+
+// A number of a column, wide enough that no sum of rows and sizes wraps.
+pub fn wide(x: u32) -> usize
+    ensures { λ r. ⌜ (r ≡ x) × (r < 4294967296) ⌝ }
+{
+    x as usize
 }

@@ -5,7 +5,7 @@ use native.Mathlib.Omega.{arith}
 use mathlib.Core.Path.{_≡_, refl, sym, _∙_}
 use mathlib.Core.Bool.{Bool, true, false, _&&_}
 use mathlib.Core.List.{List, [], _∷_}
-use lib.Dec.{T, leb, eqb}
+use lib.Dec.{leb, eqb}
 use lib.ListN.{length}
 use borrow.Author.Tests.{le-leb, lt-leb}
 use Rattle.plan.specs.declared.Record.{Record}
@@ -16,14 +16,14 @@ use Rattle.plan.specs.Answer.{accepted, refused}
 use Rattle.plan.specs.Tree.{count}
 use Rattle.plan.specs.Table.{Table, even}
 use Rattle.plan.specs.Call.{then, test, result, judged, bulk}
-use Rattle.plan.specs.Lent.{Lent, lent, level, listed, list}
-use Rattle.plan.proofs.Kit.{T-and, T-of, and-false}
+use Rattle.plan.specs.Lent.{lent, level, listed, list}
+use Rattle.plan.proofs.Kit.{T-of, and-false}
 use Rattle.plan.proofs.Judged.{Accepted, accepted-judged}
 use Rattle.judge.specs.declared.Judgement.{Judgement}
 use Rattle.judge.specs.declared.Judgement.the-variants.{Needs, Refused}
-use Rattle.judge.specs.Judgement.{publishedOf, published}
+use Rattle.judge.specs.Judgement.{publishedOf}
 use Rattle.judge.proofs.Unique.{needs-told, refused-told}
-use Rattle.pass.specs.Asked.{Given, Asked, Answered}
+use Rattle.pass.specs.Asked.{Given, Answered}
 use Rattle.refresh.specs.Done.{Done}
 
 and-last : (x y z : Bool) → z ≡ true → (x && (y && z)) ≡ (x && y)
@@ -77,9 +77,6 @@ module _ (evens : Bool) (t i : Table) (l : List Record) (u : Table) where
           rw (m, passed .1)
           (refuses 10 0 f (then-ten ∙ rw (passed .0, lt-leb f (length (u .size)) (omega (arith, passed .1, k)))))
 
-      pub columns-even : T evens
-      columns-even = T-and evens (even t && even i) (told .columns-even) .0
-
       module _ (k : n ≤ length (u .size)) where
         pub given : Given t i l u
         given =
@@ -98,15 +95,6 @@ module _ (evens : Bool) (t i : Table) (l : List Record) (u : Table) where
   pub done-written : verdict ≡ Passed → (m : ℕ) (b : Answer) (w : Table) → Answered t i l u w m → b ≡ accepted m
       → Done evens t i l u b w
   done-written v m b w q o = record { answered = rw (v, o, q .rows); columns = rw v (q .columns) }
-
--- the pass is asked to apply a list lent as columns
-pub asked : (t i : Table) (l : Lent) (u : Table) → even u ≡ true → (j : Judgement) → j ≡ published t i l
-    → (n : ℕ) → j ≡ Needs n → n ≤ length (u .size) → Asked t i l u
-asked t i l u e j g n h k =
-    record {
-      columns-level = columns-even (level l) t i (list l) u e j g n h;
-      given = given (level l) t i (list l) u e j g n h k;
-    }
 
 -- the test of the new columns is `even`
 pub new-even : (b : Bool) (u : Table)

@@ -1,8 +1,10 @@
 // The bulk call and the single call over plain columns: judged by the published tests, and written in one pass.
-use judge::Judgement;
+use crate::work::begin;
+use crate::work::end;
+use crate::work::next;
 use judge::judged;
-use judge::long;
-use pass::apply;
+use judge::list::is_level;
+use judge::list::record_at;
 use plan::Answer;
 use plan::Record;
 ghost use mathlib.Core.Bool.{true};
@@ -40,7 +42,7 @@ pub fn bulk(
         let w = table (now (ndist .exit)) (now (nsize .exit)) (now (nvalue .exit)) in
         Done (level l) t i (list l) u a w) ⌝ }
 {
-    if !long(ndist, nvalue, nsize.len()) {
+    if !is_level(kind, location, parent, from, values) {
         return Answer::refused(1, 0, 0);
     }
     let j = judged(
@@ -56,31 +58,26 @@ pub fn bulk(
         isize,
         ivalue,
     );
-    match j {
-        Judgement::Refused(number, place, count) => Answer::refused(number, place, count),
-        Judgement::Needs(n) => {
-            if n > nsize.len() as u64 {
-                return Answer::refused(10, 0, n);
-            }
-            let rows = apply(
-                dist,
-                size,
-                value,
-                kind,
-                location,
-                parent,
-                from,
-                values,
-                idist,
-                isize,
-                ivalue,
-                ndist,
-                nsize,
-                nvalue,
-            );
-            Answer::accepted(rows as u64)
-        }
+    let mut s = begin(j, value, ndist, nsize, nvalue);
+    let mut k = 0;
+    while k < kind.len() {
+        let r = record_at(kind, location, parent, from, values, k);
+        s = next(
+            s,
+            r,
+            dist,
+            size,
+            value,
+            idist,
+            isize,
+            ivalue,
+            ndist,
+            nsize,
+            nvalue,
+        );
+        k += 1;
     }
+    end(s, dist, size, value, ndist, nsize, nvalue)
 }
 
 // One change: judged as a list of one record.

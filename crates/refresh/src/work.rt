@@ -35,11 +35,10 @@ pub fn begin(
         return Work::Refused(Answer::refused(1, 0, 0));
     }
     match j {
-        Judgement::Refused(number, place, count) => Work::Refused(Answer::refused(
-            number,
-            place,
-            count,
-        )),
+        Judgement::Refused(number, place, count) => {
+            let a = Answer::refused(number, place, count);
+            Work::Refused(a)
+        }
         Judgement::Needs(n) => {
             if n > nsize.len() as u64 {
                 return Work::Refused(Answer::refused(10, 0, n));

@@ -1,7 +1,7 @@
 // The axes: what stands around one row. They read raw columns, and answer for unsound tables too.
 use crate::Tested;
 use crate::even;
-use crate::wide;
+use plan::wide;
 ghost use mathlib.Core.Path.{_≡_};
 ghost use Rattle.plan.specs.Table.{table};
 ghost use Rattle.plan.specs.Axes.{parent as parentOf, firstChild, nextSibling, subtreeTop, subtree as valuesOf};

@@ -1,6 +1,6 @@
 // The climb: the check of a table's shape row by row, which knows the first bad row.
 use crate::rooted;
-use crate::wide;
+use plan::wide;
 ghost use mathlib.Core.Path.{_≡_};
 ghost use Prim.Native.Nat.{_+_, _<_};
 ghost use lib.ListN.{length};

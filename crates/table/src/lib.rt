@@ -1,8 +1,8 @@
 // The table: whether three lent columns are a tree's, what stands around a row, and the walk over a row's children.
 // Every call takes any columns: sound or not, of equal length or not, with any numbers in them.
 use plan::Answer;
+use plan::wide;
 ghost use mathlib.Core.Path.{_≡_};
-ghost use Prim.Native.Nat.{_<_};
 ghost use Rattle.plan.specs.Table.{table};
 ghost use Rattle.table.specs.Answers.{evenRows};
 ghost use Rattle.table.specs.Rows.{Rooted, Says};
@@ -12,13 +12,6 @@ pub mod climb;
 pub mod sound;
 pub mod walk;
 pub mod walker;
-
-// A number of a column, wide enough that no sum of rows and sizes wraps.
-fn wide(x: u32) -> usize
-    ensures { λ r. ⌜ (r ≡ x) × (r < 4294967296) ⌝ }
-{
-    x as usize
-}
 
 // What a test of whole columns answers: it passes, and the table has so many rows; or it fails.
 enum Tested {

@@ -2,8 +2,8 @@
 use crate::Tested;
 use crate::even;
 use crate::rooted;
-use crate::wide;
 use plan::Answer;
+use plan::wide;
 use std::num;
 ghost use mathlib.Core.Path.{_≡_};
 ghost use Rattle.plan.specs.Table.{table, sound as soundly};

@@ -1,7 +1,7 @@
 // The walk over a row's children: where it starts, and its step, over a size column, a candidate and an end.
 use crate::axes::Found;
 use crate::axes::subtree_top;
-use crate::wide;
+use plan::wide;
 ghost use mathlib.Core.Path.{_≡_};
 ghost use Rattle.plan.specs.Table.{table};
 ghost use Rattle.plan.specs.Axes.{walkStart, step as stepAt};

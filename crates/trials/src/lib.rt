@@ -6,7 +6,6 @@ use crate::run::test_run;
 use plan::Before;
 use plan::Record;
 ghost use mathlib.Core.Path.{_≡_};
-ghost use Prim.Native.Nat.{_<_};
 ghost use lib.ListN.{length};
 ghost use Rattle.plan.specs.Table.{table};
 ghost use Rattle.plan.specs.Records.{known};
@@ -20,13 +19,6 @@ pub mod run;
 pub enum Trial {
     Passed,
     Failed(u32),
-}
-
-// A number of a column, wide enough that no sum of rows and sizes wraps.
-pub fn wide(x: u32) -> usize
-    ensures { λ r. ⌜ (r ≡ x) × (r < 4294967296) ⌝ }
-{
-    x as usize
 }
 
 // Test 4: the kind is one of the four.

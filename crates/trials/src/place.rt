@@ -1,7 +1,7 @@
 // Test 5: the place of a record in the table, in constant time.
 use crate::Trial;
-use crate::wide;
 use plan::Record;
+use plan::wide;
 ghost use mathlib.Core.Path.{_≡_};
 ghost use Prim.Native.Nat.{_<_};
 ghost use lib.ListN.{length};

@@ -1,7 +1,7 @@
 // Test 6: the run of a record among the insertions.
 use crate::Trial;
-use crate::wide;
 use plan::Record;
+use plan::wide;
 use table::sound;
 ghost use mathlib.Core.Path.{_≡_};
 ghost use mathlib.Core.Bool.{_||_};

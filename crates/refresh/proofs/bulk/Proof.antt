@@ -1,158 +1,160 @@
--- `refresh::bulk` meets its contract: the tests in their order, and what the pass writes.
+-- `refresh::bulk` meets its contract: before each record the work is on, with the records from there on left.
+use Prim.Native.Nat.{_-_}
+use native.Mathlib.Omega.{arith}
 use mathlib.Core.Path.{sym, _∙_}
-use borrow.Author.Tests.{not-true, not-false}
-use Rattle.refresh.proofs.Settling.{done-uneven, done-short, asked, done-refused, done-written, all-passed, new-even}
+use lib.ListN.{length}
 use borrow.Author.Needs.{needs}
+use borrow.Author.Tests.{not-true, not-false}
+use Rattle.plan.specs.Table.{table}
+use Rattle.plan.specs.Lent.{lent}
+use Rattle.judge.proofs.Listing.{levels}
+use Rattle.refresh.proofs.Listing.{done-odd, judged-so, Left, left-all, next-record, left-behind, last-record, whole-list}
 use Rattle.refresh.proofs.bulk.Statement.{statement}
 use Rattle.refresh.proofs.bulk.Tie as tie
-use Rattle.refresh.proofs.bulk.Reads as reads
-use Rattle.refresh.proofs.bulk.Lts as lts
-use Rattle.judge.proofs.judged.Reads as judged-reads
-use Rattle.judge.proofs.long.Reads as long-reads
-use Rattle.pass.proofs.apply.Reads as apply-reads
-use Rattle.plan.proofs.Answer.accepted.Reads as accepted-reads
-use Rattle.plan.proofs.Answer.refused.Reads as refused-reads
 
--- src/lib.rt:40:9
-long-requires : tie.Need-long-requires
-long-requires c κs = search needs
+abbrev Inv-loop : tie.InvT-loop
+Inv-loop dist size value kind location parent from values idist isize ivalue d₀ s₀ v₀ w₀ k₀ ndist nsize nvalue s k =
+    let t = table dist size value in
+    let i = table idist isize ivalue in
+    let l = lent kind location parent from values in
+    Left t i l (table d₀ s₀ v₀) w₀ (table ndist nsize nvalue) s k
 
--- src/lib.rt:41:9
-refused-requires : tie.Need-refused-requires
+abbrev μ-loop : tie.MeasureT-loop
+μ-loop dist size value kind location parent from values idist isize ivalue d₀ s₀ v₀ w₀ k₀ ndist nsize nvalue s k =
+    length kind - k
+
+-- src/lib.rt:45:9
+is-level-requires : tie.Need-is-level-requires Inv-loop μ-loop
+is-level-requires c κs = search needs
+
+-- src/lib.rt:46:9
+refused-requires : tie.Need-refused-requires Inv-loop μ-loop
 refused-requires c κs = search needs
 
--- src/lib.rt:41:9
-same-length : tie.Need-same-length
-same-length c = search needs
-
--- src/lib.rt:41:9
-same-length-2 : tie.Need-same-length-2
-same-length-2 c = search needs
-
--- src/lib.rt:41:9
-returns : tie.Need-returns
+-- src/lib.rt:46:9
+returns : tie.Need-returns Inv-loop μ-loop
 returns c =
-    done-uneven _ _ _ _ _ _
-    (sym (new-even _ _ (c .before .before .long .ensures)) ∙ not-true _ (c .before .if1 .taken))
-    (c .refused .ensures)
+    let odd = c .before in
+    done-odd _ _ _ _ _ (sym (odd .before .is-level .ensures) ∙ not-true _ (odd .if1 .taken)) (c .refused .ensures)
 
--- src/lib.rt:43:9
-judged-requires : tie.Need-judged-requires
+-- src/lib.rt:48:9
+judged-requires : tie.Need-judged-requires Inv-loop μ-loop
 judged-requires c κs = search needs
 
--- src/lib.rt:57:28
-enum-known-j : tie.Need-enum-known-j
-enum-known-j c = search needs
+-- src/lib.rt:61:9
+begin-requires : tie.Need-begin-requires Inv-loop μ-loop
+begin-requires c κs =
+    let judged = c .before .before .before in
+    let level = judged .before in
+    judged-so _ _ _ _ (sym (level .before .is-level .ensures) ∙ not-false _ (level .if1 .left)) (judged .judged .ensures)
 
--- src/lib.rt:57:53
-refused-requires-2 : tie.Need-refused-requires-2
-refused-requires-2 c κs = search needs
+-- src/lib.rt:63:5
+loop-holds : tie.Need-loop-holds Inv-loop μ-loop
+loop-holds c =
+    left-all _ _ _
 
--- src/lib.rt:58:26
-enum-known-j-2 : tie.Need-enum-known-j-2
-enum-known-j-2 c = search needs
+-- src/lib.rt:64:13
+record-at-requires : tie.Need-record-at-requires Inv-loop μ-loop
+record-at-requires c κs =
+    let begun = c .before .before .before .before .before .before .before .before in
+    let level = begun .before .before .before .before .before in
+    (levels _ (sym (level .before .is-level .ensures) ∙ not-false _ (level .if1 .left)), c .loop-test .taken)
 
--- src/lib.rt:60:17
-refused-requires-3 : tie.Need-refused-requires-3
-refused-requires-3 c κs = search needs
+-- src/lib.rt:65:9
+next-requires : tie.Need-next-requires Inv-loop μ-loop
+next-requires c κs =
+    let read = c .before .before .before in
+    let turn = read .before in
+    let begun = turn .before .before .before .before .before .before .before .before in
+    let judged = begun .before .before .before .before in
+    let level = judged .before in
+    next-record _ _ _ (sym (level .before .is-level .ensures) ∙ not-false _ (level .if1 .left))
+    (judged .judged .ensures) (begun .begin .ensures) (turn .before .loop .inv) (turn .loop-test .taken)
+    (read .record-at .ensures)
 
--- src/lib.rt:60:17
-same-length-3 : tie.Need-same-length-3
-same-length-3 c = search needs
+-- src/lib.rt:78:9
+add-k : tie.Need-add-k Inv-loop μ-loop
+add-k c =
+    let turn = c .before .before .before .before .before .before .before .before .before .before .before in
+    let begun = turn .before .before .before .before .before .before .before .before in
+    let level = begun .before .before .before .before .before in
+    let asked = level .before .before .before .before in
+    let start = asked .before .before .before .before .before .before .before .before .before .before .before .before in
+    omega (arith, turn .loop-test .taken, start .good .1 .1 .1 .0 .0)
 
--- src/lib.rt:60:17
-same-length-4 : tie.Need-same-length-4
-same-length-4 c = search needs
+-- src/lib.rt:63:5
+loop-less : tie.Need-loop-less Inv-loop μ-loop
+loop-less c =
+    omega (arith, c .before .before .before .before .before .before .before .before .before .before .before .loop-test .taken)
 
--- src/lib.rt:60:17
-returns-2 : tie.Need-returns-2
+-- src/lib.rt:63:5
+loop-again : tie.Need-loop-again Inv-loop μ-loop
+loop-again c =
+    let called = c .before .before .before .before .before .before in
+    let read = called .before .before .before .before in
+    let turn = read .before in
+    left-behind _ _ _ (turn .before .loop .inv) (turn .loop-test .taken) (read .record-at .ensures) (called .next .ensures)
+    (search needs) (search needs) (search needs)
+
+-- src/lib.rt:80:5
+end-requires : tie.Need-end-requires Inv-loop μ-loop
+end-requires c κs =
+    let turn = c .before .before .before in
+    let begun = turn .before .before .before .before .before .before .before .before in
+    let judged = begun .before .before .before .before in
+    let level = judged .before in
+    last-record _ _ _ (sym (level .before .is-level .ensures) ∙ not-false _ (level .if1 .left))
+    (judged .judged .ensures) (begun .begin .ensures) (turn .before .loop .inv) (turn .loop-test .left)
+
+-- src/lib.rt:20:1
+same-length : tie.Need-same-length Inv-loop μ-loop
+same-length c =
+    let long = c .before .before .before .before .before .before .before .before .before .before .before .loop .inv .dist-long in
+    search needs
+
+-- src/lib.rt:20:1
+same-length-2 : tie.Need-same-length-2 Inv-loop μ-loop
+same-length-2 c =
+    let long = c .before .before .before .before .before .before .before .before .before .before .before .loop .inv .size-long in
+    search needs
+
+-- src/lib.rt:20:1
+same-length-3 : tie.Need-same-length-3 Inv-loop μ-loop
+same-length-3 c =
+    let long = c .before .before .before .before .before .before .before .before .before .before .before .loop .inv .value-long in
+    search needs
+
+-- src/lib.rt:20:1
+returns-2 : tie.Need-returns-2 Inv-loop μ-loop
 returns-2 c =
-    let fits = c .before in
-    let told = fits .before .before in
-    let judged = told .before .before in
-    let long = judged .before in
-    done-short _ _ _ _ _ (sym (new-even _ _ (long .before .long .ensures)) ∙ not-false _ (long .if1 .left)) _
-    (judged .judged .ensures) _ (told .j2 .given .1) _ (fits .if2 .taken) (c .refused3 .ensures)
-
--- src/lib.rt:62:17
-apply-requires : tie.Need-apply-requires
-apply-requires c κs =
-    let fits = c .before .before .before in
-    let told = fits .before .before in
-    let judged = told .before .before in
-    let long = judged .before in
-    asked _ _ _ _ (sym (new-even _ _ (long .before .long .ensures)) ∙ not-false _ (long .if1 .left)) _
-    (judged .judged .ensures) _ (told .j2 .given .1) (fits .if2 .left)
-
--- src/lib.rt:78:13
-accepted-requires : tie.Need-accepted-requires
-accepted-requires c κs = search needs
-
--- src/lib.rt:16:1
-same-length-5 : tie.Need-same-length-5
-same-length-5 c = search needs
-
--- src/lib.rt:16:1
-same-length-6 : tie.Need-same-length-6
-same-length-6 c = search needs
-
--- src/lib.rt:16:1
-returns-3 : tie.Need-returns-3
-returns-3 c =
-    let told = c .before .before in
-    let judged = told .before .before in
-    let long = judged .before in
-    done-refused _ _ _ _ _ (sym (new-even _ _ (long .before .long .ensures)) ∙ not-false _ (long .if1 .left)) _
-    (judged .judged .ensures) _ _ _ _ (told .j .given .1) (c .refused2 .ensures)
-
--- src/lib.rt:16:1
-same-length-7 : tie.Need-same-length-7
-same-length-7 c = search needs
-
--- src/lib.rt:16:1
-same-length-8 : tie.Need-same-length-8
-same-length-8 c = search needs
-
--- src/lib.rt:16:1
-same-length-9 : tie.Need-same-length-9
-same-length-9 c = search needs
-
--- src/lib.rt:16:1
-returns-4 : tie.Need-returns-4
-returns-4 c =
-    let written = c .before .before .before .before .before .before .before in
-    let fits = written .before .before .before .before in
-    let told = fits .before .before in
-    let judged = told .before .before in
-    let long = judged .before in
-    let even = sym (new-even _ _ (long .before .long .ensures)) ∙ not-false _ (long .if1 .left) in
-    done-written _ _ _ _ _
-    (all-passed _ _ _ _ _ even _ (judged .judged .ensures) _ (told .j2 .given .1) (fits .if2 .left)) _ _ _
-    (written .apply .ensures) (c .accepted .ensures)
+    let ended = c .before .before .before .before .before .before in
+    let turn = ended .before .before .before .before in
+    let begun = turn .before .before .before .before .before .before .before .before in
+    let judged = begun .before .before .before .before in
+    let level = judged .before in
+    whole-list _ _ _ (sym (level .before .is-level .ensures) ∙ not-false _ (level .if1 .left))
+    (judged .judged .ensures) (begun .begin .ensures) (turn .before .loop .inv) (turn .loop-test .left)
+    (ended .end .ensures)
 
 pub bulk-spec : {M : Type 1} → statement M
 bulk-spec =
     tie.close
     (tie.spec
-    long-requires
+    Inv-loop
+    μ-loop
+    is-level-requires
     refused-requires
-    same-length
-    same-length-2
     returns
     judged-requires
-    enum-known-j
-    refused-requires-2
-    enum-known-j-2
-    refused-requires-3
+    begin-requires
+    loop-holds
+    record-at-requires
+    next-requires
+    add-k
+    loop-less
+    loop-again
+    end-requires
+    same-length
+    same-length-2
     same-length-3
-    same-length-4
-    returns-2
-    apply-requires
-    accepted-requires
-    same-length-5
-    same-length-6
-    returns-3
-    same-length-7
-    same-length-8
-    same-length-9
-    returns-4)
+    returns-2)

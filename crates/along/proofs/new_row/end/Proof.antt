@@ -7,7 +7,7 @@ use Rattle.along.proofs.new_row.end.Tie as tie
 use Rattle.along.proofs.new_row.end.Reads as reads
 use Rattle.along.proofs.new_row.end.Lts as lts
 use Rattle.mapping.proofs.row.narrow.Reads as narrow-reads
-use Rattle.trials.proofs.wide.Reads as wide-reads
+use Rattle.plan.proofs.wide.Reads as wide-reads
 
 -- src/new_row.rt:58:22
 enum-known-w : tie.Need-enum-known-w

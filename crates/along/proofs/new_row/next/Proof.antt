@@ -8,7 +8,7 @@ use Rattle.along.proofs.new_row.next.Reads as reads
 use Rattle.along.proofs.new_row.next.Lts as lts
 use Rattle.mapping.proofs.row.follow_back.Reads as follow-back-reads
 use Rattle.mapping.proofs.row.narrow.Reads as narrow-reads
-use Rattle.trials.proofs.wide.Reads as wide-reads
+use Rattle.plan.proofs.wide.Reads as wide-reads
 
 -- src/new_row.rt:41:22
 enum-known-w : tie.Need-enum-known-w

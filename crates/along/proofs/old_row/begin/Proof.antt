@@ -6,7 +6,7 @@ use Rattle.along.proofs.old_row.begin.Tie as tie
 use Rattle.along.proofs.old_row.begin.Reads as reads
 use Rattle.along.proofs.old_row.begin.Lts as lts
 use Rattle.mapping.proofs.meet.Stand.start.Reads as start-reads
-use Rattle.trials.proofs.wide.Reads as wide-reads
+use Rattle.plan.proofs.wide.Reads as wide-reads
 
 -- src/old_row.rt:26:28
 enum-known-j : tie.Need-enum-known-j

@@ -7,7 +7,7 @@ use Rattle.along.proofs.old_row.next.Reads as reads
 use Rattle.along.proofs.old_row.next.Lts as lts
 use Rattle.mapping.proofs.row.follow_on.Reads as follow-on-reads
 use Rattle.mapping.proofs.row.narrow.Reads as narrow-reads
-use Rattle.trials.proofs.wide.Reads as wide-reads
+use Rattle.plan.proofs.wide.Reads as wide-reads
 
 -- src/old_row.rt:43:22
 enum-known-w : tie.Need-enum-known-w

@@ -12,7 +12,7 @@ use Rattle.mapping.proofs.meet.meet.Lts as lts
 use Rattle.judge.proofs.rows.lost.Reads as lost-reads
 use Rattle.judge.proofs.rows.removes_rows.Reads as removes-rows-reads
 use Rattle.judge.proofs.rows.run_rows.Reads as run-rows-reads
-use Rattle.trials.proofs.wide.Reads as wide-reads
+use Rattle.plan.proofs.wide.Reads as wide-reads
 
 -- src/meet.rt:44:8
 lost-requires : tie.Need-lost-requires

@@ -1,12 +1,12 @@
 // The walker over a row's children.
 use crate::told;
+use children::walker::Walker;
 use out::heading;
 use out::text;
 use out::text_number;
 use out::worked;
 use table::axes::Found;
 use table::walk::Walk;
-use table::walker::Walker;
 
 // What a walk answers at its start, and in three steps.
 struct Three {

@@ -8,7 +8,5 @@ pub mod Adding
 pub mod Says
 pub mod Told
 pub mod Replies
-pub mod Lent
 pub mod Shapes
 pub mod Unique
-pub mod Walkers

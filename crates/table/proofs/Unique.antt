@@ -6,7 +6,6 @@ use mathlib.Core.Path.{_≡_, refl, sym, ap, _∙_}
 use mathlib.Core.List.{List}
 use lib.ListN.{take}
 use lib.Seq.{take-take}
-use denote.Ref.{RefT}
 use Rattle.plan.specs.Axes.{Reply, Start as Begin, Walked}
 use Rattle.plan.proofs.Kit.{by-place}
 use Rattle.table.specs.declared.axes.Found.{Found}
@@ -16,11 +15,8 @@ use Rattle.table.specs.declared.climb.Shape.the-variants.{Tree, BadAt}
 use Rattle.table.specs.declared.walk.Start.{Start}
 use Rattle.table.specs.declared.walk.Walk.{Walk}
 use Rattle.table.specs.declared.walk.Walk.the-variants.{Child, Done, Refused as Stopped}
-use Rattle.table.specs.declared.walker.Walker.{Walker}
-use Rattle.table.specs.declared.walker.Started.{Started}
 use Rattle.table.specs.Answers.{told, started, walked}
 use Rattle.table.specs.Shape.{Shaped, Begun, Right}
-use Rattle.table.specs.Walkers.{stepOf, after, Starts, Steps}
 
 -- `soundness`, `is_sound` and `subtree`: an answer, a yes or no, and a list of values, each given by an equation
 pub same-once : {A : Type 0} (x a b : A) → a ≡ x → b ≡ x → a ≡ b
@@ -74,18 +70,6 @@ walk-once = read-once walked walked-apart
 -- `start_walk`
 pub start-once : (x : Begin) (s u : Start) → started s ≡ x → started u ≡ x → s ≡ u
 start-once = read-once started started-apart
-
--- `Walker::new`
-pub walker-once : (D : List ℕ) (size : RefT (List ℕ)) (L : List ℕ) (r : ℕ) (s u : Started) → Starts s D size L r
-    → Starts u D size L r → s ≡ u
-walker-once D size L r s u p q =
-    let f = found-once _ (s .answer) (u .answer) (p .0) (q .0) in
-    let w = same-once _ (s .walker) (u .walker) (p .1) (q .1) in
-    λ i. record { answer = f i; walker = w i }
-
--- `Walker::step`: its answer, and the walker that it leaves
-pub step-once : (w : Walker) (a b : Walk) (u v : Walker) → Steps a w u → Steps b w v → (a ≡ b) × (u ≡ v)
-step-once w a b u v p q = (walk-once (stepOf w) a b (p .0) (q .0), same-once (after w) u v (p .1) (q .1))
 
 -- ---- `first_bad`
 -- what begins a sound table, and begins earlier, begins it too

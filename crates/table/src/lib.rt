@@ -11,7 +11,6 @@ pub mod axes;
 pub mod climb;
 pub mod sound;
 pub mod walk;
-pub mod walker;
 
 // What a test of whole columns answers: it passes, and the table has so many rows; or it fails.
 enum Tested {

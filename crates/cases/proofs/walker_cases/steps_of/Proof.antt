@@ -48,25 +48,25 @@ use denote.Triple.Table.{entered, cited}
 use denote.Triple.Walked.{Stays, stay-none, stay-none-slice, walkOf, goes-none, goes-none-slice, Walks, ends-at, walked, walk-meets}
 use denote.Exit.{yes}
 use Rattle.table.specs.declared.walk.Walk.{Walk}
-use Rattle.table.specs.declared.walker.Walker.{Walker}
-use Rattle.table.specs.declared.walker.Started.{Started}
-use Rattle.table.proofs.Lent.{mach, Columns, columns-twice}
+use Rattle.children.specs.declared.walker.Walker.{Walker}
+use Rattle.children.specs.declared.walker.Started.{Started}
+use Rattle.children.proofs.Lent.{mach, Columns, columns-twice}
 use Rattle.table.proofs.axes.Found as F
 use Rattle.table.proofs.axes.Found.Laws as F′
 use Rattle.table.proofs.walk.Walk as S
 use Rattle.table.proofs.walk.Walk.Laws as S′
-use Rattle.table.proofs.walker.Walker as T
-use Rattle.table.proofs.walker.Walker.Laws as T′
-use Rattle.table.proofs.walker.Started as G
-use Rattle.table.proofs.walker.Started.Laws as G′
-use Rattle.table.proofs.walker.Walker.new as new
-use Rattle.table.proofs.walker.Walker.new.Symbol as new-def
-use Rattle.table.proofs.walker.Walker.new.Symbol.{name as #new}
-use Rattle.table.proofs.walker.Walker.new.Met as new-thm
-use Rattle.table.proofs.walker.Walker.step as step
-use Rattle.table.proofs.walker.Walker.step.Symbol as step-def
-use Rattle.table.proofs.walker.Walker.step.Symbol.{name as #step}
-use Rattle.table.proofs.walker.Walker.step.Met as step-thm
+use Rattle.children.proofs.walker.Walker as T
+use Rattle.children.proofs.walker.Walker.Laws as T′
+use Rattle.children.proofs.walker.Started as G
+use Rattle.children.proofs.walker.Started.Laws as G′
+use Rattle.children.proofs.walker.Walker.new as new
+use Rattle.children.proofs.walker.Walker.new.Symbol as new-def
+use Rattle.children.proofs.walker.Walker.new.Symbol.{name as #new}
+use Rattle.children.proofs.walker.Walker.new.Met as new-thm
+use Rattle.children.proofs.walker.Walker.step as step
+use Rattle.children.proofs.walker.Walker.step.Symbol as step-def
+use Rattle.children.proofs.walker.Walker.step.Symbol.{name as #step}
+use Rattle.children.proofs.walker.Walker.step.Met as step-thm
 use Rattle.cases.specs.declared.walker_cases.Three.{Three}
 use Rattle.cases.proofs.walker_cases.Three as N
 use Rattle.cases.proofs.walker_cases.Three.Laws as N′
@@ -432,6 +432,6 @@ steps-of-spec 𝓤 H 𝓜 𝓖 𝓡 =
     (tables 𝓤 H 𝓜 𝓡 code.env .C) (tables 𝓤 H 𝓜 𝓡 code.env .Λ) #steps-of code.function (code.unfolded 𝓤 H 𝓜 𝓡)
     (meets 𝓤 H (𝓖 .A) (givenOf 𝓤 H 𝓜 𝓖) (𝓜 .mem) (𝓡 .run) (tablesOf 𝓤 H 𝓜 (tables 𝓤 H 𝓜 𝓡 code.env))
     (cited 𝓤 H (New 𝓤 H (𝓖 .A) (𝓜 .mem) (𝓡 .run)) 𝓜 𝓡 code.env #new new-def.routine
-    code.calls-table·walker·Walker·new (new-thm.met 𝓤 H 𝓜 𝓖 𝓡))
+    code.calls-children·walker·Walker·new (new-thm.met 𝓤 H 𝓜 𝓖 𝓡))
     (cited 𝓤 H (Steps 𝓤 H (𝓖 .A) (𝓜 .mem) (𝓡 .run)) 𝓜 𝓡 code.env #step step-def.routine
-    code.calls-table·walker·Walker·step (step-thm.met 𝓤 H 𝓜 𝓖 𝓡)))
+    code.calls-children·walker·Walker·step (step-thm.met 𝓤 H 𝓜 𝓖 𝓡)))

@@ -1,11 +1,11 @@
 // A walker over a row's children: it holds the lent size column, the next candidate and the end.
 // The borrow checker covers no function over such a struct: each is thin and proved by hand, and a covered one works.
-use crate::axes::Found;
-use crate::walk::Walk;
-use crate::walk::start_walk;
-use crate::walk::step;
+use table::axes::Found;
+use table::walk::Walk;
+use table::walk::start_walk;
+use table::walk::step;
 ghost use Rattle.plan.specs.Axes.{step as stepAt};
-ghost use Rattle.table.specs.Walkers.{Starts, MovesBy, Steps};
+ghost use Rattle.children.specs.Walkers.{Starts, MovesBy, Steps};
 
 // A walk on one table: the size column that it was lent, the next candidate and the end.
 pub struct Walker<'a> {

@@ -6,11 +6,11 @@ use mathlib.Core.List.{List}
 use denote.Ref.{RefT, now}
 use Rattle.plan.specs.Table.{table}
 use Rattle.plan.specs.Axes.{Start, walkStart, Walked, moved, step}
 use Rattle.table.specs.declared.walk.Walk.{Walk}
-use Rattle.table.specs.declared.walker.Walker.{Walker}
-use Rattle.table.specs.declared.walker.Started.{Started}
-use Rattle.table.specs.declared.walker.Moved.{Moved}
+use Rattle.children.specs.declared.walker.Walker.{Walker}
+use Rattle.children.specs.declared.walker.Started.{Started}
+use Rattle.children.specs.declared.walker.Moved.{Moved}
 use Rattle.table.specs.Answers.{told, walked}
 
 -- the walker on the column lent, at a start
 abbrev pub walkerAt : RefT (List ℕ) → Start → Walker

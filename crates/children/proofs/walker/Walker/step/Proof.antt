@@ -45,23 +45,23 @@ use denote.Triple.Entry.{Vals, onEntry}
 use denote.Triple.Spec.{Meets, tripleOf}
 use denote.Triple.Table.{entered, cited}
 use denote.Triple.Walked.{says, Stays, stay-ref, walkOf, goes-ref, Walks, ends-at, walked, walk-meets}
-use Rattle.table.specs.Walkers.{stepOf, MovesBy}
-use Rattle.table.specs.declared.walker.Walker.{Walker}
-use Rattle.table.specs.declared.walker.Moved.{Moved}
-use Rattle.table.proofs.walker.Walker as T
-use Rattle.table.proofs.walker.Walker.Laws as T′
-use Rattle.table.proofs.walker.Moved as N
-use Rattle.table.proofs.walker.Moved.Laws as N′
+use Rattle.children.specs.Walkers.{stepOf, MovesBy}
+use Rattle.children.specs.declared.walker.Walker.{Walker}
+use Rattle.children.specs.declared.walker.Moved.{Moved}
+use Rattle.children.proofs.walker.Walker as T
+use Rattle.children.proofs.walker.Walker.Laws as T′
+use Rattle.children.proofs.walker.Moved as N
+use Rattle.children.proofs.walker.Moved.Laws as N′
 use Rattle.table.proofs.walk.Walk as S
 use Rattle.table.proofs.walk.Walk.Laws as S′
-use Rattle.table.proofs.walker.stepped as stepped
-use Rattle.table.proofs.walker.stepped.Symbol as stepped-def
-use Rattle.table.proofs.walker.stepped.Symbol.{name as #stepped}
-use Rattle.table.proofs.walker.stepped.Met as stepped-thm
-use Rattle.table.proofs.walker.Walker.step.Key.{name as #step}
-use Rattle.table.proofs.walker.Walker.step as fn
-use Rattle.table.proofs.walker.Walker.step.Statement as stated
-use Rattle.table.proofs.walker.Walker.step.Code as code
+use Rattle.children.proofs.walker.stepped as stepped
+use Rattle.children.proofs.walker.stepped.Symbol as stepped-def
+use Rattle.children.proofs.walker.stepped.Symbol.{name as #stepped}
+use Rattle.children.proofs.walker.stepped.Met as stepped-thm
+use Rattle.children.proofs.walker.Walker.step.Key.{name as #step}
+use Rattle.children.proofs.walker.Walker.step as fn
+use Rattle.children.proofs.walker.Walker.step.Statement as stated
+use Rattle.children.proofs.walker.Walker.step.Code as code
 
 -- 'a, and the walker's type at it, with its description and its laws
 abbrev α : Lft → NamedLft
@@ -264,4 +264,4 @@ step-spec 𝓤 H 𝓜 𝓖 𝓡 =
     (tables 𝓤 H 𝓜 𝓡 code.env .C) (tables 𝓤 H 𝓜 𝓡 code.env .Λ) #step code.function (code.unfolded 𝓤 H 𝓜 𝓡)
     (meets 𝓤 H (𝓖 .A) (givenOf 𝓤 H 𝓜 𝓖) (𝓜 .mem) (𝓡 .run) (tablesOf 𝓤 H 𝓜 (tables 𝓤 H 𝓜 𝓡 code.env))
     (cited 𝓤 H (Stepped 𝓤 H (𝓖 .A) (𝓜 .mem) (𝓡 .run)) 𝓜 𝓡 code.env #stepped stepped-def.routine
-    code.calls-table·walker·stepped (stepped-thm.met 𝓤 H 𝓜 𝓖 𝓡)))
+    code.calls-children·walker·stepped (stepped-thm.met 𝓤 H 𝓜 𝓖 𝓡)))

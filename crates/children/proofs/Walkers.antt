@@ -14,13 +14,13 @@ use Rattle.plan.specs.Table.{Table, table}
 use Rattle.plan.specs.Axes.{row, refuse, whole, walkStart, Walked, child, ended, stopped, moved, steps, childrenIn}
 use Rattle.plan.proofs.Sound.{TreeOf}
 use Rattle.plan.proofs.Axes.{tree-of, given-by, walk-sound, walk-refused, walk-stays}
 use Rattle.table.specs.declared.walk.Walk.{Walk}
 use Rattle.table.specs.declared.walk.Walk.the-variants.{Child, Done, Refused}
-use Rattle.table.specs.declared.walker.Walker.{Walker}
-use Rattle.table.specs.declared.walker.Started.{Started}
+use Rattle.children.specs.declared.walker.Walker.{Walker}
+use Rattle.children.specs.declared.walker.Started.{Started}
 use Rattle.table.specs.Answers.{told, walked}
-use Rattle.table.specs.Walkers.{Starts, stepOf, after}
+use Rattle.children.specs.Walkers.{Starts, stepOf, after}
 use Rattle.table.proofs.walk.Walk.{the-type}
 
 -- ---- where a step leaves the walk
 -- no child: it stays

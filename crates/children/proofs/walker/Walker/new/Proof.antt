@@ -41,28 +41,28 @@ use denote.Triple.Walked.{says, Stays, stay-none, stay-none-slice, walkOf, goes-
 use denote.Exit.{yes}
 use Rattle.plan.specs.Table.{table}
 use Rattle.plan.specs.Axes.{Start as Begin, walkStart}
 use Rattle.table.specs.Answers.{started}
-use Rattle.table.specs.Walkers.{walkerAt}
+use Rattle.children.specs.Walkers.{walkerAt}
 use Rattle.table.specs.declared.walk.Start.{Start}
-use Rattle.table.specs.declared.walker.Walker.{Walker}
-use Rattle.table.specs.declared.walker.Started.{Started}
-use Rattle.table.proofs.Lent.{mach, Columns, columns-twice}
+use Rattle.children.specs.declared.walker.Walker.{Walker}
+use Rattle.children.specs.declared.walker.Started.{Started}
+use Rattle.children.proofs.Lent.{mach, Columns, columns-twice}
 use Rattle.table.proofs.axes.Found as F
 use Rattle.table.proofs.axes.Found.Laws as F′
 use Rattle.table.proofs.walk.Start as N
 use Rattle.table.proofs.walk.Start.Laws as N′
-use Rattle.table.proofs.walker.Walker as T
-use Rattle.table.proofs.walker.Walker.Laws as T′
-use Rattle.table.proofs.walker.Started as G
-use Rattle.table.proofs.walker.Started.Laws as G′
+use Rattle.children.proofs.walker.Walker as T
+use Rattle.children.proofs.walker.Walker.Laws as T′
+use Rattle.children.proofs.walker.Started as G
+use Rattle.children.proofs.walker.Started.Laws as G′
 use Rattle.table.proofs.walk.start_walk as start
 use Rattle.table.proofs.walk.start_walk.Symbol as start-def
 use Rattle.table.proofs.walk.start_walk.Symbol.{name as #start}
 use Rattle.table.proofs.walk.start_walk.Met as start-thm
-use Rattle.table.proofs.walker.Walker.new.Key.{name as #new}
-use Rattle.table.proofs.walker.Walker.new as fn
-use Rattle.table.proofs.walker.Walker.new.Statement as stated
-use Rattle.table.proofs.walker.Walker.new.Code as code
+use Rattle.children.proofs.walker.Walker.new.Key.{name as #new}
+use Rattle.children.proofs.walker.Walker.new as fn
+use Rattle.children.proofs.walker.Walker.new.Statement as stated
+use Rattle.children.proofs.walker.Walker.new.Code as code
 
 abbrev stayed : Stays (fn.ended .signature .params) (fn.ended .kept)
 stayed = (

@@ -1,8 +1,8 @@
 -- `table::walker::stepped` meets its contract.
 use borrow.Author.Needs.{needs}
-use Rattle.table.proofs.Walkers.{stays-told, moves-told}
-use Rattle.table.proofs.walker.stepped.Statement.{statement}
-use Rattle.table.proofs.walker.stepped.Tie as tie
+use Rattle.children.proofs.Walkers.{stays-told, moves-told}
+use Rattle.children.proofs.walker.stepped.Statement.{statement}
+use Rattle.children.proofs.walker.stepped.Tie as tie
 
 step-requires : tie.Need-step-requires
 step-requires c κs = search needs

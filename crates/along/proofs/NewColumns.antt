@@ -218,7 +218,8 @@ module _ (rows : ℕ) (w : Placing) (v : Places) where
           (at-last Stage (o .aim) t i c (Goes s k, v) (o .on)) m (up-to t (o .known))
           (omega (arith, st .room, st .even))
 
-      pub ends-written : (a : Answer) (v′ : Places) → v′ .records ≡ laid (replicate (m - s .out) mark) (v .records) (s .out)
+      pub ends-written : (a : Answer) (v′ : Places)
+          → v′ .records ≡ laid (replicate (m - s .out) mark) (v .records) (s .out)
           → v′ .rows ≡ laid (rising (m - s .out) (s .row)) (v .rows) (s .out) → a ≡ accepted m
           → Finished Stage (rowed rows) (w, v) (Right a v′)
       ends-written a v′ f g h =

@@ -165,7 +165,8 @@ module _ (x : ℕ) where
         next-old y z h q =
             rw (e, q)
             (record {
-              onward = λ g t i c rs u v o. one-more (Stage x) tt t i c (Goes s k) r rs o (Told (WasOld (record { 0 = y })))
+              onward = λ g t i c rs u v o. one-more (Stage x) tt t i c (Goes s k) r rs o
+                  (Told (WasOld (record { 0 = y })))
                   (followed t i c (o .stage .passed) (o .stage .below) (old y) (was-old y h t i c rs u v o .0));
             })
 

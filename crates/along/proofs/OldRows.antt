@@ -112,7 +112,8 @@ module _ (x : ℕ) where
       module _ (a : Step) (f : a ≡ onOf s x (meeting size isize s r)) where
         told : (t i : Table) (c : Lent) (rs : List Record) → t .size ≡ size → i .size ≡ isize
             → (o : On (Stage x) tt t i c (Goes s) (r ∷ rs))
-            → OnTold (t .size) (i .size) c (passing t i c (accepted-judged (evens t i c) t i (list c) (o .stage .passed)))
+            → OnTold (t .size) (i .size) c
+            (passing t i c (accepted-judged (evens t i c) t i (list c) (o .stage .passed)))
             x (o .place + 1) a
         told t i c rs u v o =
             let p : Passing (t .size) (i .size) c =

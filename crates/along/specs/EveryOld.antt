@@ -30,4 +30,5 @@ pub record Going (u : List ℕ) (t i : Table) (c : Lent) (s : Stand) (v : List �
 
 abbrev pub Stage : (u : List ℕ) → Table → Table → Lent → Numbering × List ℕ → ℕ → Type 0
 Stage u t i c (Goes s, v) j = Going u t i c s v j
-Stage u t i c (Refused number place count, v) j = (oldVerdict (level c) t i (list c) u ≡ Failed number place count) × (v ≡ u)
+Stage u t i c (Refused number place count, v) j =
+    (oldVerdict (level c) t i (list c) u ≡ Failed number place count) × (v ≡ u)

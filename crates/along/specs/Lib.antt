@@ -1,5 +1,5 @@
--- What the contracts cite: how a mapping goes on from record to record (`Onward`), and for each mapping what holds of its
--- state, and which answer is right.
+-- What the contracts cite: how a mapping goes on from record to record (`Onward`), and for each mapping what holds of
+-- its state, and which answer is right.
 pub mod Onward
 pub mod OldRow
 pub mod NewRow

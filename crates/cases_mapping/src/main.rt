@@ -1,5 +1,5 @@
-// What the mappings of row numbers answer and write: both mappings of every row for lists on the worked plan, row by row
-// and as whole columns; rows that no table has; lent columns that are too short.
+// What the mappings of row numbers answer and write: both mappings of every row for lists on the worked plan, row by
+// row and as whole columns; rows that no table has; lent columns that are too short.
 use columns::map_new;
 use columns::map_old;
 use mapping::Became;

@@ -122,7 +122,8 @@ module _ (t i : Table) (l : Lent) (j : Judgement) (g : j ≡ published t i l) wh
     abbrev fine : (judged (evens t i l) t i (list l) ≡ Passed) × (k ≡ m t i l)
     fine = passed t i l j g k h
 
-    pub old-short : (a : Answer) → length u < n t i l → a ≡ refused 10 0 (n t i l) → OldDone (level l) t i (list l) u a u
+    pub old-short : (a : Answer) → length u < n t i l → a ≡ refused 10 0 (n t i l)
+        → OldDone (level l) t i (list l) u a u
     old-short a f = old-failed t i l u a 10 0 (n t i l) (old-roomless t i l u (fine .0) f)
 
     pub old-asked : n t i l ≤ length u → OldAsked (t .size) (i .size) l u
@@ -160,4 +161,5 @@ module _ (t i : Table) (l : Lent) (j : Judgement) (g : j ≡ published t i l) wh
           → NewRight (t .size) (i .size) l u w → NewDone (level l) t i (list l) u a w
       new-done a f e w o =
           let told = o (whole t i l j g k h) in
-          new-written t i l u q (right .0) a (omega (arith, right .1)) (e ∙ ap accepted (right .1)) w (told .0) (told .1)
+          new-written t i l u q (right .0) a (omega (arith, right .1)) (e ∙ ap accepted (right .1)) w (told .0)
+          (told .1)

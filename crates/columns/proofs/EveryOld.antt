@@ -163,7 +163,8 @@ module _ (size isize : List ℕ) (l : Lent) (p : Passing size isize l) (w : List
         }
 
     pub old-end : (s : Stand) (j : ℕ) (u : List ℕ) → OldWay s j u → length (l .kind) ≤ j
-        → laid (rising (length size - s .row) (s .out)) u (s .row) ≡ laid (newNumbers (newOrigins p) (length size) 0) w 0
+        → laid (rising (length size - s .row) (s .out)) u (s .row)
+        ≡ laid (newNumbers (newOrigins p) (length size) 0) w 0
     old-end s j u v h =
         let is-size : rows size isize l p ≡ length size = ap length (p .sizes) in
         rw is-size at (
@@ -171,7 +172,8 @@ module _ (size isize : List ℕ) (l : Lent) (p : Passing size isize l) (w : List
         (sym (numbers-rise (newOrigins p) (rows size isize l p - s .row) (s .row) (s .out)
         (λ x a b. sym (v .fates x a)
         ∙ (ap (λ (os : List Origin). fate os (s .out) x) (last-ahead size isize l p x s j h)
-        ∙ fate-last (s .row) (rows size isize l p) (s .out) x a (omega (arith, way-inside size isize l p s j (v .way)))))))
+        ∙ fate-last (s .row) (rows size isize l p) (s .out) x a
+        (omega (arith, way-inside size isize l p s j (v .way)))))))
         ∙ v .still)
 
 -- ---- for the loop: whatever table and insertions the list passed with

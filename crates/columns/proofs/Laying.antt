@@ -86,7 +86,8 @@ module _ (w u : List ℕ) (start end : ℕ) where
       }
 
   -- at the end
-  pub rising-ends : (first x : ℕ) → Rising w u start end first x → end ≤ x → u ≡ laid (rising (end - start) first) w start
+  pub rising-ends : (first x : ℕ) → Rising w u start end first x → end ≤ x
+      → u ≡ laid (rising (end - start) first) w start
   unfolding laid
   rising-ends first x r h =
       let none : end - x ≡ 0 = omega arith in

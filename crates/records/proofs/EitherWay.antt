@@ -48,7 +48,8 @@ module _ (t i : Table) (c : Lent) (l : List Record) (even-columns : level c ≡ 
       ∙ sym e
 
   pub new-either-way : (x : ℕ) (a b : Was)
-      → a ≡ was (queried (level c) t i (list c) (count (result t i (list c))) x) (originAt (origins (result t i (list c))) x)
+      → a ≡ was (queried (level c) t i (list c) (count (result t i (list c))) x)
+      (originAt (origins (result t i (list c))) x)
       → b ≡ was (queried true t i l (count (result t i l)) x) (originAt (origins (result t i l)) x) → a ≡ b
   new-either-way x a b d e =
       as-slice

@@ -1,5 +1,5 @@
--- `columns::map_new` meets its contract: refused by test 1 of its own columns, by the list's tests, for want of room, or
--- written.
+-- `columns::map_new` meets its contract: refused by test 1 of its own columns, by the list's tests, for want of room,
+-- or written.
 use Rattle.columns.proofs.Calls.{new-uneven, new-refused, new-short, new-asked, new-done}
 use borrow.Author.Needs.{needs}
 use Rattle.columns.proofs.map_new.Statement.{statement}

@@ -40,7 +40,8 @@ record-at-requires c κs =
 -- src/lib.rt:43:9
 step-old-requires : tie.Need-step-old-requires Inv-loop μ-loop
 step-old-requires c κs =
-    let asked = c .before .before .before .before .before .before .before .before .before .before .before .before .before .pre in
+    let begun = c .before .before .before .before .before .before .before in
+    let asked = begun .before .before .before .before .before .before .pre in
     let read = c .before in
     let turn = read .before in
     old-met _ _ _ _ _ _ _ (turn .before .loop .inv) (turn .loop-test .taken) _ (read .record-at .ensures)
@@ -71,7 +72,8 @@ loop-again c =
 count-up-requires : tie.Need-count-up-requires Inv-loop μ-loop
 count-up-requires c κs =
     let turn = c .before in
-    old-part _ _ _ _ _ _ _ (turn .before .loop .inv) (turn .before .before .before .before .before .before .before .before .before .before .before .pre .passing)
+    let begun = turn .before .before .before .before .before .before in
+    old-part _ _ _ _ _ _ _ (turn .before .loop .inv) (begun .before .before .before .before .before .pre .passing)
 
 -- src/lib.rt:21:1
 same-length : tie.Need-same-length Inv-loop μ-loop

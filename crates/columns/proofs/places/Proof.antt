@@ -35,7 +35,8 @@ loop-holds c =
 -- src/lib.rt:74:13
 record-at-requires : tie.Need-record-at-requires Inv-loop μ-loop
 record-at-requires c κs =
-    let asked = c .before .before .before .before .before .before .before .before .before .before .before .before .pre in
+    let begun = c .before .before .before .before .before .before in
+    let asked = begun .before .before .before .before .before .before .pre in
     (asked .passing .list-level, c .loop-test .taken)
 
 -- src/lib.rt:75:9
@@ -43,7 +44,8 @@ step-new-requires : tie.Need-step-new-requires Inv-loop μ-loop
 step-new-requires c κs =
     let read = c .before .before in
     let turn = read .before in
-    let asked = turn .before .before .before .before .before .before .before .before .before .before .before .before .pre in
+    let begun = turn .before .before .before .before .before .before in
+    let asked = begun .before .before .before .before .before .before .pre in
     new-met _ _ _ _ _ _ _ _ _ (turn .before .loop .inv) (turn .loop-test .taken) _ (read .record-at .ensures) asked
 
 -- src/lib.rt:76:9
@@ -72,25 +74,33 @@ loop-again c =
 sub-end : tie.Need-sub-end Inv-loop μ-loop
 sub-end c =
     let turn = c .before in
-    new-inside _ _ _ _ _ _ _ _ _ (turn .before .loop .inv) (turn .before .before .before .before .before .before .before .before .before .before .before .before .pre .passing) .0
+    let begun = turn .before .before .before .before .before .before in
+    let asked = begun .before .before .before .before .before .before .pre in
+    new-inside _ _ _ _ _ _ _ _ _ (turn .before .loop .inv) (asked .passing) .0
 
 -- src/lib.rt:78:15
 add-end : tie.Need-add-end Inv-loop μ-loop
 add-end c =
     let turn = c .before .before in
-    omega (arith, new-inside _ _ _ _ _ _ _ _ _ (turn .before .loop .inv) (turn .before .before .before .before .before .before .before .before .before .before .before .before .pre .passing))
+    let begun = turn .before .before .before .before .before .before in
+    let asked = begun .before .before .before .before .before .before .pre in
+    omega (arith, new-inside _ _ _ _ _ _ _ _ _ (turn .before .loop .inv) (asked .passing))
 
 -- src/lib.rt:79:5
 put-requires : tie.Need-put-requires Inv-loop μ-loop
 put-requires c κs =
     let turn = c .before .before .before in
-    record-fits _ _ _ _ _ _ _ _ _ (turn .before .loop .inv) (turn .loop-test .left) _ refl (turn .before .before .before .before .before .before .before .before .before .before .before .before .pre)
+    let begun = turn .before .before .before .before .before .before in
+    record-fits _ _ _ _ _ _ _ _ _ (turn .before .loop .inv) (turn .loop-test .left) _ refl
+    (begun .before .before .before .before .before .before .pre)
 
 -- src/lib.rt:80:5
 count-up-requires : tie.Need-count-up-requires Inv-loop μ-loop
 count-up-requires c κs =
     let turn = c .before .before .before .before .before .before .before in
-    rows-fit _ _ _ _ _ _ _ _ _ (turn .before .loop .inv) (turn .loop-test .left) _ refl (turn .before .before .before .before .before .before .before .before .before .before .before .before .pre)
+    let begun = turn .before .before .before .before .before .before in
+    rows-fit _ _ _ _ _ _ _ _ _ (turn .before .loop .inv) (turn .loop-test .left) _ refl
+    (begun .before .before .before .before .before .before .pre)
 
 -- src/lib.rt:50:1
 same-length : tie.Need-same-length Inv-loop μ-loop

@@ -46,7 +46,8 @@ begin-requires : tie.Need-begin-requires Inv-loop μ-loop
 begin-requires c κs =
     let judged = c .before .before .before in
     let level = judged .before in
-    judged-so _ _ _ _ (sym (level .before .is-level .ensures) ∙ not-false _ (level .if1 .left)) (judged .judged .ensures)
+    judged-so _ _ _ _ (sym (level .before .is-level .ensures) ∙ not-false _ (level .if1 .left))
+    (judged .judged .ensures)
 
 -- src/lib.rt:63:5
 loop-holds : tie.Need-loop-holds Inv-loop μ-loop
@@ -85,7 +86,8 @@ add-k c =
 -- src/lib.rt:63:5
 loop-less : tie.Need-loop-less Inv-loop μ-loop
 loop-less c =
-    omega (arith, c .before .before .before .before .before .before .before .before .before .before .before .loop-test .taken)
+    let called = c .before .before .before .before .before .before in
+    omega (arith, called .before .before .before .before .before .loop-test .taken)
 
 -- src/lib.rt:63:5
 loop-again : tie.Need-loop-again Inv-loop μ-loop
@@ -93,8 +95,8 @@ loop-again c =
     let called = c .before .before .before .before .before .before in
     let read = called .before .before .before .before in
     let turn = read .before in
-    left-behind _ _ _ (turn .before .loop .inv) (turn .loop-test .taken) (read .record-at .ensures) (called .next .ensures)
-    (search needs) (search needs) (search needs)
+    left-behind _ _ _ (turn .before .loop .inv) (turn .loop-test .taken) (read .record-at .ensures)
+    (called .next .ensures) (search needs) (search needs) (search needs)
 
 -- src/lib.rt:80:5
 end-requires : tie.Need-end-requires Inv-loop μ-loop
@@ -109,19 +111,22 @@ end-requires c κs =
 -- src/lib.rt:20:1
 same-length : tie.Need-same-length Inv-loop μ-loop
 same-length c =
-    let long = c .before .before .before .before .before .before .before .before .before .before .before .loop .inv .dist-long in
+    let ended = c .before .before .before .before .before .before in
+    let long = ended .before .before .before .before .before .loop .inv .dist-long in
     search needs
 
 -- src/lib.rt:20:1
 same-length-2 : tie.Need-same-length-2 Inv-loop μ-loop
 same-length-2 c =
-    let long = c .before .before .before .before .before .before .before .before .before .before .before .loop .inv .size-long in
+    let ended = c .before .before .before .before .before .before in
+    let long = ended .before .before .before .before .before .loop .inv .size-long in
     search needs
 
 -- src/lib.rt:20:1
 same-length-3 : tie.Need-same-length-3 Inv-loop μ-loop
 same-length-3 c =
-    let long = c .before .before .before .before .before .before .before .before .before .before .before .loop .inv .value-long in
+    let ended = c .before .before .before .before .before .before in
+    let long = ended .before .before .before .before .before .loop .inv .value-long in
     search needs
 
 -- src/lib.rt:20:1

@@ -52,7 +52,8 @@ narrow-requires : tie.Need-narrow-requires
 narrow-requires c κs =
     let followed = c .before .before .before in
     let met = followed .before .before .before in
-    old-fits _ _ _ _ _ _ _ (met .w .given .1) _ (rw (followed .before .wide .ensures .0) at (followed .follow-back .ensures))
+    old-fits _ _ _ _ _ _ _ (met .w .given .1) _
+    (rw (followed .before .wide .ensures .0) at (followed .follow-back .ensures))
     (met .before .before .before .before .pre) _ (c .before .b2 .given .1)
 
 -- src/new_row.rt:48:19
@@ -70,7 +71,8 @@ narrow-requires-3 : tie.Need-narrow-requires-3
 narrow-requires-3 c κs =
     let followed = c .before .before .before .before in
     let met = followed .before .before .before in
-    run-fits _ _ _ _ _ _ _ (met .w .given .1) _ (rw (followed .before .wide .ensures .0) at (followed .follow-back .ensures))
+    run-fits _ _ _ _ _ _ _ (met .w .given .1) _
+    (rw (followed .before .wide .ensures .0) at (followed .follow-back .ensures))
     (met .before .before .before .before .pre) _ (c .before .before .b3 .given .1)
 
 -- src/new_row.rt:37:1
@@ -78,7 +80,8 @@ returns-2 : tie.Need-returns-2
 returns-2 c =
     let followed = c .before .before .before in
     let met = followed .before .before .before in
-    next-goes _ _ _ _ _ _ _ (met .w .given .1) _ (rw (followed .before .wide .ensures .0) at (followed .follow-back .ensures)) _
+    next-goes _ _ _ _ _ _ _ (met .w .given .1) _
+    (rw (followed .before .wide .ensures .0) at (followed .follow-back .ensures)) _
     (c .before .b .given .1)
 
 -- src/new_row.rt:37:1
@@ -86,7 +89,8 @@ returns-3 : tie.Need-returns-3
 returns-3 c =
     let followed = c .before .before .before .before in
     let met = followed .before .before .before in
-    next-old _ _ _ _ _ _ _ (met .w .given .1) _ (rw (followed .before .wide .ensures .0) at (followed .follow-back .ensures)) _ _
+    next-old _ _ _ _ _ _ _ (met .w .given .1) _
+    (rw (followed .before .wide .ensures .0) at (followed .follow-back .ensures)) _ _
     (c .before .before .b2 .given .1) (c .narrow .ensures)
 
 -- src/new_row.rt:37:1
@@ -94,7 +98,8 @@ returns-4 : tie.Need-returns-4
 returns-4 c =
     let followed = c .before .before .before .before .before in
     let met = followed .before .before .before in
-    next-run _ _ _ _ _ _ _ (met .w .given .1) _ (rw (followed .before .wide .ensures .0) at (followed .follow-back .ensures)) _ _ _
+    next-run _ _ _ _ _ _ _ (met .w .given .1) _
+    (rw (followed .before .wide .ensures .0) at (followed .follow-back .ensures)) _ _ _
     (c .before .before .before .b3 .given .1) (c .before .narrow2 .ensures) (c .narrow3 .ensures)
 
 pub next-spec : {M : Type 1} → statement M

@@ -45,7 +45,9 @@ narrow-requires : tie.Need-narrow-requires
 narrow-requires c κs =
     let followed = c .before .before .before in
     let met = followed .before .before .before in
-    row-fits _ _ _ _ _ _ (met .w .given .1) _ (rw (followed .before .wide .ensures .0) at (followed .follow-on .ensures)) (met .before .before .before .before .pre) _ (c .before .o2 .given .1)
+    row-fits _ _ _ _ _ _ (met .w .given .1) _
+    (rw (followed .before .wide .ensures .0) at (followed .follow-on .ensures))
+    (met .before .before .before .before .pre) _ (c .before .o2 .given .1)
 
 -- src/old_row.rt:50:34
 enum-told-2 : tie.Need-enum-told-2
@@ -56,21 +58,25 @@ returns-2 : tie.Need-returns-2
 returns-2 c =
     let followed = c .before .before .before in
     let met = followed .before .before .before in
-    next-goes _ _ _ _ _ _ (met .w .given .1) _ (rw (followed .before .wide .ensures .0) at (followed .follow-on .ensures)) _ (c .before .o .given .1)
+    next-goes _ _ _ _ _ _ (met .w .given .1) _
+    (rw (followed .before .wide .ensures .0) at (followed .follow-on .ensures)) _ (c .before .o .given .1)
 
 -- src/old_row.rt:39:1
 returns-3 : tie.Need-returns-3
 returns-3 c =
     let followed = c .before .before .before .before in
     let met = followed .before .before .before in
-    next-row _ _ _ _ _ _ (met .w .given .1) _ (rw (followed .before .wide .ensures .0) at (followed .follow-on .ensures)) _ _ (c .before .before .o2 .given .1) (c .narrow .ensures)
+    next-row _ _ _ _ _ _ (met .w .given .1) _
+    (rw (followed .before .wide .ensures .0) at (followed .follow-on .ensures)) _ _
+    (c .before .before .o2 .given .1) (c .narrow .ensures)
 
 -- src/old_row.rt:39:1
 returns-4 : tie.Need-returns-4
 returns-4 c =
     let followed = c .before .before in
     let met = followed .before .before .before in
-    next-gone _ _ _ _ _ _ (met .w .given .1) _ (rw (followed .before .wide .ensures .0) at (followed .follow-on .ensures)) (c .enum-told2 .given .1)
+    next-gone _ _ _ _ _ _ (met .w .given .1) _
+    (rw (followed .before .wide .ensures .0) at (followed .follow-on .ensures)) (c .enum-told2 .given .1)
 
 pub next-spec : {M : Type 1} → statement M
 next-spec =

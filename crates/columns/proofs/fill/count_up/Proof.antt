@@ -1,4 +1,4 @@
--- `columns::fill::count_up` meets its contract: at each turn, what is still to be laid, over what is there, is the whole.
+-- `columns::fill::count_up` meets its contract: at each turn, what is still to be laid over what is there is the whole.
 use borrow.Author.Needs.{needs}
 use Prim.Native.Nat.{_-_}
 use native.Mathlib.Omega.{arith}

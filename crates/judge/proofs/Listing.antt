@@ -19,7 +19,8 @@ use Rattle.judge.specs.declared.Judgement.{Judgement}
 use Rattle.judge.specs.declared.Judgement.the-variants.{Refused}
 use Rattle.judge.specs.declared.exam.Exam.{Exam}
 use Rattle.judge.specs.Judgement.{Level, published}
-use Rattle.judge.specs.Underway.{On, Begun, Next, Taken, Last, Finished}
+use Rattle.judge.specs.declared.exam.Exam.the-variants.{Going, Refused as RefusedSo}
+use Rattle.judge.specs.Underway.{On, wanted, Begun, Next, Taken, Last, Finished}
 
 -- ---- its records
 module _ (l : Lent) where
@@ -91,6 +92,24 @@ uneven-list t i l h = rw h
 pub record Left (t i : Table) (l : Lent) (e : Exam) (j : ℕ) : Type 0 where
   pub on : On t i (list l) e (listed l j (length (l .kind) - j))
 
+-- no more records are looked at than there are
+wanted-low : (e : Exam) (n : ℕ) → wanted e n ≤ n
+wanted-low (Going b x k) n = omega arith
+wanted-low (RefusedSo a p c) n = omega arith
+
+module _ (e : Exam) (n : ℕ) {m j : ℕ} (q : m ≡ wanted e n) where
+  pub wanted-more : j < m → j < n
+  wanted-more h = omega (arith, wanted-low e n)
+
+  pub none-wanted : m ≤ j → wanted e n ≤ j
+  none-wanted h = omega arith
+
+-- where none is looked at any more, it is as if none were left
+ended : (t i : Table) (l : Lent) (e : Exam) (j : ℕ) → wanted e (length (l .kind)) ≤ j
+    → On t i (list l) e (listed l j (length (l .kind) - j)) → On t i (list l) e []
+ended t i l (Going b x k) j m h = subst (On t i (list l) (Going b x k)) (listed-end l j (length (l .kind)) m) h
+ended t i l (RefusedSo a p c) j m h = record { stage = h .stage }
+
 module _ {t i : Table} {l : Lent} {e : Exam} where
   -- at its beginning all are left
   pub left-all : Begun t i (length (l .kind)) e → Left t i l e 0
@@ -114,9 +133,9 @@ module _ {t i : Table} {l : Lent} {e : Exam} where
       left-behind k = record { on = k .onward (t .value) (list l) later there }
 
     -- at its end none is
-    module _ (m : length (l .kind) ≤ j) where
+    module _ (m : wanted e (length (l .kind)) ≤ j) where
       none-left : On t i (list l) e []
-      none-left = subst (On t i (list l) e) (listed-end l j (length (l .kind)) m) (h .on)
+      none-left = ended t i l e j m (h .on)
 
       pub last-record : Last (t .size) e
       last-record = record { dist = t .dist; value = t .value; insertions = i; list = list l; on = none-left }

@@ -16,14 +16,14 @@ use Rattle.plan.specs.declared.Verdict.the-variants.{Passed, Failed}
 use Rattle.plan.specs.Tree.{Forest, count}
 use Rattle.plan.specs.Table.{Table, even, sound, mostRows}
 use Rattle.plan.specs.Paint.{Painted, old, plan}
-use Rattle.plan.specs.Records.{failing}
+use Rattle.plan.specs.Records.{failing, runs}
 use Rattle.plan.specs.Call.{then, test, tested, result, mostRecords, judged}
 use Rattle.plan.proofs.Kit.{true-of, T-and}
 use Rattle.plan.proofs.Tests.{even-lengths}
 use Rattle.plan.proofs.Tested.{passes, tested-passes}
 use Rattle.trials.specs.declared.Trial.{Trial}
 use Rattle.trials.specs.declared.Trial.the-variants.{Passed as Good, Failed as Bad}
-use Rattle.trials.specs.Trial.{Even, outcome, RightTrial}
+use Rattle.trials.specs.Trial.{Even, RunTested, outcome, RightTrial}
 use Rattle.judge.specs.declared.Judgement.{Judgement}
 use Rattle.judge.specs.declared.rows.Tally.{Tally}
 use Rattle.judge.specs.declared.exam.Exam.{Exam}
@@ -106,11 +106,11 @@ module _ {t i : Table} {l : List Record} {b : Before} {x : Tally} {k : ℕ} {r :
   f = plan old t
 
   -- it can be tested
-  pub can-try : (length (t .dist) ≡ length (t .size)) × Even i
+  pub can-try : (length (t .dist) ≡ length (t .size)) × Even i × RunTested i b
   can-try =
       let d = even-lengths t (true-of (even t) (both-even h .0)) in
       let m = even-lengths i (true-of (even i) (both-even h .1)) in
-      (d .0, record { dists = m .0; values = m .1 })
+      (d .0, record { dists = m .0; values = m .1 }, h .run-tested)
 
   -- few records passed
   pub few-passed : k < mostRecords
@@ -139,6 +139,15 @@ module _ {t i : Table} {l : List Record} {b : Before} {x : Tally} {k : ℕ} {r :
             },
           )
 
+      -- its run passed
+      run-passed : RunTested i (After r)
+      run-passed =
+          record {
+            passed = λ p e.
+                let same : r ≡ p = cc in
+                subst (λ (q : Record). T (runs i q)) same (passes f i b r none-fails .run-sound);
+          }
+
       -- counted, the exam goes on behind it
       pub goes-on : {y : Tally} → Counted (t .size) (i .size) x r y → On t i l (Going (After r) y (k + 1)) rs
       goes-on {y} c =
@@ -150,6 +159,7 @@ module _ {t i : Table} {l : List Record} {b : Before} {x : Tally} {k : ℕ} {r :
                   few = h .few;
                   places = omega (arith, h .places);
                   tests = h .tests ∙ rw (add-one k) (tested-next f i k b r rs none-fails);
+                  run-tested = run-passed;
                   rows = h .rows ∙ rw (c .is);
                   few-came = omega (arith, c .few-come, h .few-came);
                   few-went = omega (arith, c .few-go, h .few-went);

@@ -13,6 +13,7 @@ use Rattle.plan.specs.declared.Verdict.the-variants.{Failed}
 use Rattle.plan.specs.Table.{Table, table, even, sound}
 use Rattle.plan.specs.Paint.{old, plan}
 use Rattle.plan.specs.Call.{tested, mostRecords, judged}
+use Rattle.trials.specs.Trial.{RunTested}
 use Rattle.judge.specs.declared.Judgement.{Judgement}
 use Rattle.judge.specs.declared.rows.Tally.{Tally}
 use Rattle.judge.specs.declared.exam.Exam.{Exam}
@@ -29,6 +30,7 @@ pub record Along (t i : Table) (l : List Record) (before : Before) (tally : Tall
   pub few : length l ≤ mostRecords
   pub places : passed + length rs ≡ length l
   pub tests : tested (plan old t) i 0 Nothing l ≡ tested (plan old t) i passed before rs
+  pub run-tested : RunTested i before
   pub rows : tallyAll (t .size) (i .size) fresh l ≡ tallyAll (t .size) (i .size) tally rs
   pub few-came : tally .comes ≤ 4294967296 * passed
   pub few-went : tally .goes ≤ 4294967296 * passed
@@ -41,6 +43,11 @@ Stage t i l (Refused number place count) rs = judged (even t && even i) t i l �
 -- the exam of the list l, on the table t with the insertions i, has come to e, and the records rs are left
 pub record On (t i : Table) (l : List Record) (e : Exam) (rs : List Record) : Type 0 where
   pub stage : Stage t i l e rs
+
+-- how many of n records are looked at: of a refused exam no more
+abbrev pub wanted : Exam → (n : ℕ) → ℕ
+wanted (Going before tally passed) n = n
+wanted (Refused number place count) n = 0
 
 -- every list of so many records is at its beginning
 pub record Begun (t i : Table) (records : ℕ) (e : Exam) : Type 0 where

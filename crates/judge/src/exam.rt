@@ -17,7 +17,7 @@ ghost use lib.Dec.{leb};
 ghost use Rattle.plan.specs.Table.{table, even, sound as soundly, mostRows};
 ghost use Rattle.plan.specs.Call.{test, mostRecords};
 ghost use Rattle.judge.specs.Judgement.{firstTests, judgement};
-ghost use Rattle.judge.specs.Underway.{Begun, Next, Taken, Last, Finished};
+ghost use Rattle.judge.specs.Underway.{wanted, Begun, Next, Taken, Last, Finished};
 
 // An exam of a list under way: the record before, what is counted so far, how many records passed; or the refusal.
 pub enum Exam {
@@ -125,6 +125,16 @@ pub fn begin(
     match v {
         Verdict::Failed(number, place, count) => Exam::Refused(number, place, count),
         Verdict::Passed => Exam::Going(Before::Nothing, Tally::fresh(), 0),
+    }
+}
+
+// How many of n records are looked at: of a refused exam no more.
+pub fn looked_at(e: Exam, n: usize) -> usize
+    ensures { λ r. ⌜ r ≡ wanted e n ⌝ }
+{
+    match e {
+        Exam::Refused(_, _, _) => 0,
+        Exam::Going(_, _, _) => n,
     }
 }
 

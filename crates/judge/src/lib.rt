@@ -2,6 +2,7 @@
 // Nothing is written, and no array is kept.
 use crate::exam::begin;
 use crate::exam::end;
+use crate::exam::looked_at;
 use crate::exam::next;
 use crate::list::is_level;
 use crate::list::record_at;
@@ -62,7 +63,7 @@ pub fn judged(
     }
     let mut e = begin(kind.len(), dist, size, value, idist, isize, ivalue);
     let mut j = 0;
-    while j < kind.len() {
+    while j < looked_at(e, kind.len()) {
         let r = record_at(kind, location, parent, from, values, j);
         e = next(e, r, dist, size, idist, isize, ivalue);
         j += 1;

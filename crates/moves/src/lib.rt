@@ -3,9 +3,10 @@
 use plan::wide;
 ghost use mathlib.Core.Path.{_≡_};
 ghost use Prim.Native.Nat.{_+_, _-_, _<_, _≤_};
-ghost use lib.ListN.{length, getD, set};
+ghost use lib.ListN.{length, getD, set, drop};
 ghost use Rattle.plan.specs.Table.{table};
-ghost use Rattle.moves.specs.Written.{cursor, copied, laid, rowed, Lays, Pastes, Opens, Closes};
+ghost use Rattle.moves.specs.Written.{cursor, copied, laid, hung, rehung};
+ghost use Rattle.moves.specs.Written.{Lays, Pastes, Unread, Stretches, Wrote, Revalues, Revalued, Closes};
 
 // Where the pass stands.
 pub struct Cursor {
@@ -15,7 +16,8 @@ pub struct Cursor {
     // the innermost open row, in the old table and in the new
     pub parent: usize,
     pub under: usize,
-    // the old rows that the last record took away: from this one up to that
+    // the old rows that the last record took away: from this one up to that. The values of the rows before `till` are
+    // there already
     pub gone: usize,
     pub till: usize,
 }
@@ -126,26 +128,104 @@ pub fn paste(
     }
 }
 
-// The next old row becomes the next new row, with the value a, and is open.
-pub fn open(c: Cursor, a: u32, ndist: &mut [u32], nsize: &mut [u32], nvalue: &mut [u32]) -> Cursor
-    requires { ⌜ Opens (table (now ndist) (now nsize) (now nvalue)) c ⌝ }
-    ensures { λ r. ⌜ r ≡ cursor (c .row + 1) (c .out + 1) (c .row) (c .out) (c .gone) (c .till) ⌝ }
+// The distance of the row at place j of a stretch: it leads to the open row, d rows before the stretch, or stays.
+fn hang(d: u32, j: u32, x: u32) -> u32
+    requires { ⌜ d + j < 65536 ⌝ }
+    ensures { λ r. ⌜ r ≡ hung d j x ⌝ }
+{
+    if x > j {
+        return d + j;
+    }
+    x
+}
+
+// Copies a part of the distances, of rows that all lie under the open row, d rows before the part.
+fn rehang(dist: &[u32], from: usize, count: usize, d: u32, new: &mut [u32], at: usize)
+    requires { ⌜ (
+        let n = length (now dist) in
+        (from + count ≤ n) × (at + count ≤ length (now new)) × (d + count < 65536)) ⌝ }
     ensures { λ r. ⌜ (
+        let x = rehung d 0 (drop from (now (dist .entry))) in
+        now (new .exit) ≡ copied (now (new .entry)) at x 0 count) ⌝ }
+{
+    let mut j = 0;
+    while j < count {
+        new[at + j] = hang(d, narrow(j), dist[from + j]);
+        j += 1;
+    }
+}
+
+// Of the rows from `row` up to `stop`, the first whose value is not there yet.
+fn unread(row: usize, till: usize, stop: usize) -> usize
+    requires { ⌜ row ≤ stop ⌝ }
+    ensures { λ r. ⌜ Unread row till stop r ⌝ }
+{
+    if till <= row {
+        return row;
+    }
+    if stop <= till {
+        return stop;
+    }
+    till
+}
+
+// The rows up to row `stop`, which all lie under the open row, become the next new rows.
+pub fn stretch(
+    c: Cursor,
+    stop: usize,
+    dist: &[u32],
+    size: &[u32],
+    value: &[u32],
+    ndist: &mut [u32],
+    nsize: &mut [u32],
+    nvalue: &mut [u32],
+) -> Cursor
+    requires { ⌜ (
+        let t = table (now dist) (now size) (now value) in
+        let u = table (now ndist) (now nsize) (now nvalue) in
+        Stretches t stop u c) ⌝ }
+    ensures { λ r. ⌜ r ≡ cursor stop (c .out + (stop - c .row)) (c .parent) (c .under) (c .gone) (c .till) ⌝ }
+    ensures { λ r. ⌜ (
+        let t = table (now (dist .entry)) (now (size .entry)) (now (value .entry)) in
         let u = table (now (ndist .entry)) (now (nsize .entry)) (now (nvalue .entry)) in
         let v = table (now (ndist .exit)) (now (nsize .exit)) (now (nvalue .exit)) in
-        v ≡ rowed u (c .out) (c .out - c .under) 0 a) ⌝ }
+        Wrote t u c stop v) ⌝ }
 {
+    let row = c.row;
     let at = c.out;
-    ndist[at] = narrow(at - c.under);
-    nsize[at] = 0;
-    nvalue[at] = a;
+    let rows = stop - row;
+    rehang(dist, row, rows, narrow(at - c.under), ndist, at);
+    copy(size, row, rows, nsize, at);
+    let from = unread(row, c.till, stop);
+    copy(value, from, stop - from, nvalue, at + (from - row));
     Cursor {
-        row: c.row + 1,
-        out: at + 1,
-        parent: c.row,
-        under: at,
+        row: stop,
+        out: at + rows,
+        parent: c.parent,
+        under: c.under,
         gone: c.gone,
         till: c.till,
+    }
+}
+
+// The values of the rows before row p are copied to where these rows will stand, and row p gets the value a there.
+pub fn revalue(c: Cursor, p: usize, a: u32, value: &[u32], nvalue: &mut [u32]) -> Cursor
+    requires { ⌜ Revalues (now value) (now nvalue) c p ⌝ }
+    ensures { λ r. ⌜ r ≡ cursor (c .row) (c .out) (c .parent) (c .under) (p + 1) (p + 1) ⌝ }
+    ensures { λ r. ⌜ Revalued (now (value .entry)) (now (nvalue .entry)) c p a (now (nvalue .exit)) ⌝ }
+{
+    let row = c.row;
+    let at = c.out;
+    let from = unread(row, c.till, p);
+    copy(value, from, p - from, nvalue, at + (from - row));
+    nvalue[at + (p - row)] = a;
+    Cursor {
+        row: row,
+        out: at,
+        parent: c.parent,
+        under: c.under,
+        gone: p + 1,
+        till: p + 1,
     }
 }
 

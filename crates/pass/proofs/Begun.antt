@@ -106,6 +106,9 @@ module _ {t i : Table} {l : List Record} {w : Table} (A : Given t i l w) where
         before = Nothing;
         passes = A .passes;
         past-root = past-root l (A .passes);
+        values = t .value;
+        ahead = record { long = refl; later = λ k z. refl; there = λ k y z. absurd (omega arith) };
+        coming = λ z. absurd (omega arith);
         stands =
             record {
               left = tree-of A .kids;

@@ -5,7 +5,7 @@ use native.Mathlib.Omega.{arith}
 use mathlib.Core.Path.{_≡_, refl, sym, ap, _∙_, subst}
 use mathlib.Core.List.{List}
 use lib.Dec.{T, eqb, eqb→eq}
-use lib.ListN.{length}
+use lib.ListN.{length, getD}
 use Rattle.plan.specs.declared.Record.{Record}
 use Rattle.plan.specs.declared.Before.the-variants.{Nothing}
 use Rattle.plan.specs.Tree.{Forest, none, tree, count, relabel}
@@ -18,7 +18,9 @@ use Rattle.plan.proofs.Columns.{count-relabel}
 use Rattle.plan.proofs.Sound.{TreeOf, sound-tree}
 use Rattle.plan.proofs.Cut.{Fit}
 use Rattle.plan.proofs.Stretch.{Room}
-use Rattle.plan.proofs.Machine.{step, Reach, done}
+use Rattle.plan.proofs.Machine.{valueAt, step, Reach, done}
+use Rattle.plan.proofs.Revalued.{valuing}
+use Rattle.plan.proofs.ValuesAhead.{step-same}
 use Rattle.plan.proofs.MachineTable.{rooted, start, tall-tree, root-stays, machine-reaches, machine-stops}
 use Rattle.plan.proofs.Values.{values, plan-plain, plain-tree, result-plain, values-fit}
 use Rattle.plan.proofs.RecordFacts.{values-rooted}
@@ -92,3 +94,20 @@ module _ {t i : Table} {l : List Record} {w : Table} (A : Given t i l w) where
         few = omega (arith, rows-are, A .few);
         room = room-kept k result-room;
       }
+
+  -- and so on the table with the values v
+  module _ (v : List ℕ) (e : getD v (length (t .size)) 0 ≡ valueAt t (length (t .size))) where
+    pub stops-on : step (valuing t v) (goal t i l) ≡ goal t i l
+    stops-on = step-same t v (goal t i l) e ∙ stops
+
+    pub given-ends-on : {u : Table} {c : Cursor} {n : ℕ} {cs : List (Change ℕ)} → Kept n w u
+        → Reach (valuing t v) (stateOf u c cs) (goal t i l) → Ends (valuing t v) u c cs
+    given-ends-on k r =
+        record {
+          target = goal t i l;
+          reach = r;
+          none-left = refl;
+          fixed = stops-on;
+          few = omega (arith, rows-are, A .few);
+          room = room-kept k result-room;
+        }

@@ -6,9 +6,11 @@
 --   Lost    a record that is lost with rows that are gone
 --   Ones    the next record
 --   Ended   the rows behind the last
+--   AtOnce  all of them at once
 pub mod Takes
 pub mod Given
 pub mod Begun
 pub mod Lost
 pub mod Ones
 pub mod Ended
+pub mod AtOnce

@@ -2,36 +2,34 @@
 -- Assumes nothing.
 use Prim.Native.Nat.{ℕ, suc, _+_, _-_, _≤_, _<_}
 use native.Mathlib.Omega.{arith}
-use native.Mathlib.Numerals.{add-one}
 use native.Mathlib.Nat.{add-zero}
 use mathlib.Core.Path.{_≡_, refl, sym, ap, _∙_, subst}
 use mathlib.Core.Bool.{false, _&&_}
 use mathlib.Core.List.{List, [], _∷_}
-use lib.Dec.{ltb, leb, ltb→lt}
+use lib.Dec.{ltb, leb, ltb→lt, leb→le}
 use lib.ListN.{length}
-use lib.Seq.{getD-set-same}
 use borrow.Author.Tests.{eq-eqb, ne-eqb}
 use Rattle.plan.specs.declared.Record.{Record}
 use Rattle.plan.specs.Tree.{Forest, none, tree, count}
 use Rattle.plan.specs.Table.{Table, run}
-use Rattle.plan.specs.Change.{Act, delete, rename, replace, Change, insert, act, lost}
+use Rattle.plan.specs.Change.{Act, delete, replace, Change, insert, act, lost}
 use Rattle.plan.specs.Records.{isInsert, isReplace}
 use Rattle.plan.specs.Open.{distAt, sizeAt}
 use Rattle.plan.proofs.Kit.{T-and, false-of, or-left, or-right, eq→eqb}
 use Rattle.plan.proofs.Readback.{read-back}
 use Rattle.plan.proofs.Pass.{skip}
-use Rattle.plan.proofs.Stretch.{oneRow, rows, firstRows, laterRows, Room, room-less, none-behind}
+use Rattle.plan.proofs.Stretch.{rows, firstRows, laterRows, Room, room-less, none-behind}
 use Rattle.plan.proofs.Machine.{State, state-eq, pasted, changed, step, Reach, stop, step-to}
 use Rattle.plan.proofs.MachineTable.{tall-tree}
-use Rattle.plan.proofs.Line.{Child, line-next, line-open, line-same, line-at, line-child, not-end}
-use Rattle.plan.proofs.Values.{plain, valued, valued-delete, valued-insert, valued-rename, valued-replace}
+use Rattle.plan.proofs.Line.{Child, line-next, line-same, line-at, line-child, not-end}
+use Rattle.plan.proofs.Values.{plain, valued, valued-delete, valued-insert, valued-replace}
 use Rattle.plan.proofs.FourKinds.{by-kind}
 use Rattle.plan.proofs.RecordFacts.{RunOf, run-of}
 use Rattle.moves.specs.declared.Cursor.{Cursor}
-use Rattle.moves.specs.Written.{cursor, laid, rowed, Pastes, Opens}
+use Rattle.moves.specs.Written.{cursor, laid, Pastes}
 use Rattle.walk.specs.Walk.{stateOf, Ends}
 use Rattle.pass.specs.Taking.{Due, Done}
-use Rattle.walk.proofs.Grown.{Grown, grown-state, grown-kept, grown-room, grown-below, rowed-grown, laid-grown}
+use Rattle.walk.proofs.Grown.{Grown, grown-state, grown-kept, grown-room, grown-below, laid-grown}
 use Rattle.walk.proofs.Chain.{reach-eq, kept-none}
 use Rattle.walk.proofs.Steps.{plainly, as-state, Fits, fits}
 
@@ -46,6 +44,19 @@ pub skip-none : (cs : List (Change ℕ)) → skip 0 0 cs ≡ cs
 unfolding skip
 skip-none [] = refl
 skip-none (c ∷ cs) = rw (none-lost c)
+
+same-lost : (b : ℕ) (c : Change ℕ) → lost b b c ≡ false
+same-lost b (insert p q s) =
+    false-of (leb b q && ltb q b)
+    (λ h. let w = T-and (leb b q) (ltb q b) h in omega (arith, ltb→lt q b (w .1), leb→le b q (w .0)))
+same-lost b (act p x) =
+    false-of (ltb b p && ltb p b)
+    (λ h. let w = T-and (ltb b p) (ltb p b) h in omega (arith, ltb→lt p b (w .1), ltb→lt b p (w .0)))
+
+pub skip-same : (b : ℕ) (cs : List (Change ℕ)) → skip b b cs ≡ cs
+unfolding skip
+skip-same b [] = refl
+skip-same b (c ∷ cs) = rw (same-lost b c)
 
 -- ---- the machine's step
 module _ (t u : Table) (c : Cursor) (cs : List (Change ℕ)) where
@@ -162,6 +173,7 @@ module _ {t i u : Table} {c : Cursor} {r : Record} (X : Due t i u c r) where
               };
           kept = grown-kept g;
           grows = omega arith;
+          none-ahead = omega arith;
         }
 
     -- as the calls name the run, the columns and the cursors
@@ -187,57 +199,6 @@ module _ {t i u : Table} {c : Cursor} {r : Record} (X : Due t i u c r) where
     acts : (x : Act ℕ) (cs : List (Change ℕ))
         → step t (plainly u c (act (r .location) x ∷ cs)) ≡ changed t (plainly u c (act (r .location) x ∷ cs)) x cs
     acts x cs = act-step t u c cs (r .location) x (X .here) ne
-
-    -- ---- rename
-    module _ (k3 : r .kind ≡ 3) where
-      rename-fits : Fits u (suc (c .out))
-      rename-fits = fits (ends-as (valued-rename i r k3)) _ (step-to t (acts (rename (λ a. r .value)) (X .left)) stop)
-
-      pub can-rename : Opens u c
-      can-rename =
-          let w = row-there in
-          record {
-            known = omega (arith, w .0, w .1);
-            behind = behind;
-            few = omega (arith, rename-fits .few);
-            room = room-less (omega arith) (rename-fits .room);
-          }
-
-      abbrev renamed : Table
-      renamed = rowed u (c .out) d 0 (r .value)
-
-      abbrev after-rename : Cursor
-      after-rename = cursor (c .row + 1) (c .out + 1) (c .row) (c .out) 0 0
-
-      rename-grown : Grown (c .out) 1 (oneRow d 0 (r .value)) u renamed
-      rename-grown = rowed-grown u (c .out) d 0 (r .value) (can-rename .room)
-
-      rename-done : Done t i u c r renamed after-rename
-      rename-done =
-          let g = rename-grown in
-          let e = getD-set-same (u .dist) (c .out) d 0 (omega (arith, can-rename .room .dist)) in
-          let l = line-same renamed (λ z w. grown-below g z (omega (arith, behind))) (child .line) in
-          record {
-            reach =
-                λ cs.
-                reach-as cs (valued-rename i r k3) (acts (rename (λ a. r .value)) cs)
-                (ap (stateOf renamed after-rename) (skip-none cs)
-                ∙ (grown-state g after-rename refl cs ∙ state-eq (add-one (c .row)) (add-one (c .out)) refl refl refl));
-            stands =
-                record {
-                  left = child .kids;
-                  line = line-at (add-one (c .row)) refl refl (line-open l behind e);
-                  behind = omega arith;
-                  room = grown-room g;
-                };
-            kept = grown-kept g;
-            grows = omega arith;
-          }
-
-      pub done-rename : {v : Table} {k c′ : Cursor} → v ≡ rowed u (c .out) d 0 (r .value)
-          → k ≡ cursor (c .row + 1) (c .out + 1) (c .row) (c .out) (c .gone) (c .till)
-          → c′ ≡ cursor (k .row) (k .out) (k .parent) (k .under) 0 0 → Done t i u c r v c′
-      done-rename ev ek ec = rw (ev, ec, ek) rename-done
 
     abbrev m : ℕ
     m = sizeAt t (c .row)
@@ -265,6 +226,7 @@ module _ {t i u : Table} {c : Cursor} {r : Record} (X : Due t i u c r) where
                 };
             kept = kept-none (c .out) u;
             grows = omega arith;
+            none-ahead = omega arith;
           }
 
       pub done-delete : {k : Cursor} → k ≡ left-out → Done t i u c r u k
@@ -327,6 +289,7 @@ module _ {t i u : Table} {c : Cursor} {r : Record} (X : Due t i u c r) where
                 };
             kept = grown-kept g;
             grows = omega arith;
+            none-ahead = omega arith;
           }
 
       pub done-replace : {f : ℕ} {v : Table} {k c′ : Cursor} → f ≡ r .from → k ≡ left-out

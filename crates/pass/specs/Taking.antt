@@ -27,11 +27,12 @@ unfoldable pub lostRecord : (b e : ℕ) → Record → Bool
 lostRecord b e r =
     cond (isInsert r) (leb b (r .parent) && ltb (r .parent) e) (ltb b (r .location) && ltb (r .location) e)
 
--- it is due: its place is reached
+-- it is due, and no rename: its place is reached
 pub record Due (t i u : Table) (c : Cursor) (r : Record) : Type 0 where
   pub tree-of : TreeOf t
   pub stands : Stands t u c
   pub kind-known : T (known r)
+  pub no-rename : r .kind ≡ 3 → ⊥
   pub run-sound : T (runs i r)
   pub there : (r .kind ≡ 2 → ⊥) → r .location < length (t .size)
   pub here : c .row ≡ r .location
@@ -45,3 +46,4 @@ pub record Done (t i u : Table) (c : Cursor) (r : Record) (u′ : Table) (c′ :
   pub stands : Stands t u′ c′
   pub kept : Kept (c′ .out) u u′
   pub grows : c .out ≤ c′ .out
+  pub none-ahead : c′ .till ≤ c′ .row

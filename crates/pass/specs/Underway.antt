@@ -1,6 +1,6 @@
 -- How the pass goes on from record to record.
 -- Assumes nothing.
-use Prim.Native.Nat.{ℕ, _<_}
+use Prim.Native.Nat.{ℕ, _+_, _-_, _≤_, _<_}
 use mathlib.Core.Bool.{cond}
 use mathlib.Core.List.{List, [], _∷_}
 use lib.Dec.{eqb}
@@ -16,7 +16,9 @@ use Rattle.plan.proofs.Tested.{PassAll}
 use Rattle.plan.proofs.Pass.{skip}
 use Rattle.plan.proofs.Machine.{State, Reach, done}
 use Rattle.plan.proofs.Values.{values}
+use Rattle.plan.proofs.Revalued.{valuing}
 use Rattle.moves.specs.declared.Cursor.{Cursor}
+use Rattle.moves.specs.Written.{Ahead}
 use Rattle.walk.specs.Walk.{stateOf, Stands, Kept}
 use Rattle.pass.specs.Asked.{Given, Answered}
 
@@ -39,15 +41,19 @@ behindFirst (r ∷ rs) = rs
 abbrev pub goal : Table → Table → List Record → State
 goal t i l = done (length (t .size)) (relabel bare (result t i l))
 
--- the pass over the list l, into the columns w, has come to the cursor c and the columns u, and the records rs are left
+-- the pass over the list l, into the columns w, has come to the cursor c and the columns u, and the records rs are left.
+-- The renames of rows ahead are in the table's values already
 pub record Underway (t i : Table) (l : List Record) (w u : Table) (c : Cursor) (rs : List Record) : Type 0 where
   pub given : Given t i l w
   pub before : Before
   pub passes : PassAll (plan old t) i before rs
   pub past-root : All (λ r. 0 < r .location) (behindFirst rs)
-  pub stands : Stands t u c
-  pub kept : Kept (c .out) w u
-  pub reach : Reach t (onward i u c rs) (goal t i l)
+  pub values : List ℕ
+  pub ahead : Ahead values (t .value) (u .value) c
+  pub coming : c .row < c .till → (c .till ≤ length (t .size)) × All (λ r. c .till ≤ r .location) rs
+  pub stands : Stands (valuing t values) u c
+  pub kept : Kept (c .out + (c .till - c .row)) w u
+  pub reach : Reach (valuing t values) (onward i u c rs) (goal t i l)
 
 -- some list goes on with the record r
 pub record Next (t i u : Table) (c : Cursor) (r : Record) : Type 0 where
@@ -67,6 +73,11 @@ pub record Last (t u : Table) (c : Cursor) : Type 0 where
   pub list : List Record
   pub new : Table
   pub underway : Underway t insertions list new u c []
+
+-- every list that was at its end still is
+pub record Copied (t u : Table) (c : Cursor) (u′ : Table) (c′ : Cursor) : Type 0 where
+  pub still : (i : Table) (l : List Record) (w : Table) → Underway t i l w u c [] → Underway t i l w u′ c′ []
+  pub kept : Kept (c′ .out) u u′
 
 -- every list that was at its end is done
 pub record Finished (t u : Table) (c : Cursor) (u′ : Table) (n : ℕ) : Type 0 where

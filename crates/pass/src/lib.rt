@@ -2,10 +2,12 @@
 // are taken as their places come; what is open is found again by the distances, so there is no array and no stack.
 // In the contracts t is the table, i the insertions, u the new columns before, and v after.
 use moves::Cursor;
+use moves::end;
 use moves::leave;
 use moves::narrow;
-use moves::open;
 use moves::paste;
+use moves::revalue;
+use moves::stretch;
 use plan::Record;
 use plan::wide;
 use walk::upto;
@@ -16,7 +18,7 @@ ghost use Rattle.plan.specs.Table.{table};
 ghost use Rattle.plan.proofs.Stretch.{Room};
 ghost use Rattle.moves.specs.Written.{cursor, rowed};
 ghost use Rattle.pass.specs.Taking.{Under, lostRecord, Due, Done};
-ghost use Rattle.pass.specs.Underway.{Next, Taken, Last, Finished};
+ghost use Rattle.pass.specs.Underway.{Next, Taken, Last, Copied, Finished};
 
 // No old rows are gone.
 fn fresh(c: Cursor) -> Cursor
@@ -32,7 +34,7 @@ fn fresh(c: Cursor) -> Cursor
     }
 }
 
-// The record's change is made: its place is reached.
+// The record's change is made: its place is reached. It is no rename.
 fn take(
     c: Cursor,
     r: Record,
@@ -62,10 +64,6 @@ fn take(
     let from = wide(r.from);
     if kind == Record::INSERT {
         let t = paste(c, idist, isize, ivalue, from, ndist, nsize, nvalue);
-        return fresh(t);
-    }
-    if kind == Record::RENAME {
-        let t = open(c, r.value, ndist, nsize, nvalue);
         return fresh(t);
     }
     let t = leave(c, size);
@@ -107,7 +105,8 @@ fn parent_of(dist: &[u32], r: Record) -> usize
     wide(r.parent)
 }
 
-// The next record is taken. The root is open already: a record there gives it another value.
+// The next record is taken. The root is open already: a record there gives it another value. So does a rename, to a row
+// ahead: the pass stays where it is.
 pub fn one(
     c: Cursor,
     r: Record,
@@ -141,8 +140,11 @@ pub fn one(
     if vain(c.gone, c.till, r) {
         return c;
     }
+    if r.kind == Record::RENAME {
+        return revalue(c, p, r.value, value, nvalue);
+    }
     let q = parent_of(dist, r);
-    let t = upto(c, p, q, p, dist, size, value, ndist, nsize, nvalue);
+    let t = upto(c, p, q, dist, size, value, ndist, nsize, nvalue);
     take(
         t,
         r,
@@ -156,6 +158,34 @@ pub fn one(
         nsize,
         nvalue,
     )
+}
+
+// Behind the last record: when all rows that are left lie under the open row, they are copied at once.
+fn tail(
+    c: Cursor,
+    dist: &[u32],
+    size: &[u32],
+    value: &[u32],
+    ndist: &mut [u32],
+    nsize: &mut [u32],
+    nvalue: &mut [u32],
+) -> Cursor
+    requires { ⌜ (
+        let t = table (now dist) (now size) (now value) in
+        let u = table (now ndist) (now nsize) (now nvalue) in
+        Last t u c) ⌝ }
+    ensures { λ k. ⌜ (
+        let t = table (now (dist .entry)) (now (size .entry)) (now (value .entry)) in
+        let u = table (now (ndist .entry)) (now (nsize .entry)) (now (nvalue .entry)) in
+        let v = table (now (ndist .exit)) (now (nsize .exit)) (now (nvalue .exit)) in
+        Copied t u c v k) ⌝ }
+{
+    let n = size.len();
+    let e = end(size, c.parent);
+    if e != n {
+        return c;
+    }
+    stretch(c, n, dist, size, value, ndist, nsize, nvalue)
 }
 
 // The rows behind the last record, and the root's size. The answer is the number of new rows.
@@ -179,7 +209,8 @@ pub fn finish(
         Finished t u c v n) ⌝ }
 {
     let n = size.len();
-    let t = upto(c, n, 0, n + 1, dist, size, value, ndist, nsize, nvalue);
+    let s = tail(c, dist, size, value, ndist, nsize, nvalue);
+    let t = upto(s, n, 0, dist, size, value, ndist, nsize, nvalue);
     nsize[0] = narrow(t.out);
     t.out
 }

@@ -11,8 +11,8 @@
 --                pass gives the meaning), Fits (a list that passes tests 5, 7 and 8), Tested (what it takes to pass),
 --                Kept (what is vain may be dropped), Trimmed (the kept changes from left to right), OnePass (the
 --                theorem), RowsNeeded (how many rows a result has), Relabel (labels before or after)
---   columns      Values, Stretch, Machine, MachineForest, MachineTable, MachineBetween, RecordFacts, Line (the pass as
---                moves over columns, from left to right)
+--   columns      Values, Stretch, Machine, MachineForest, MachineTable, MachineBetween, RecordFacts, Line, Pieces (the
+--                pass as moves over columns, from left to right)
 --   mappings     Merge (the labels after a list are a merge), Mapping (the fate of a row in it), Origins (the origins
 --                of a result, the paper's formula), Survivors (the mappings are inverse on survivors, which keep their
 --                order), Following, Said, Meeting (one row followed through the records)
@@ -52,6 +52,9 @@ pub mod MachineTable
 pub mod MachineBetween
 pub mod RecordFacts
 pub mod Line
+pub mod Pieces
+pub mod Revalued
+pub mod ValuesAhead
 pub mod Merge
 pub mod Mapping
 pub mod Origins

@@ -1,6 +1,6 @@
 -- The pass, a step at a time over the columns of a table. What is open is the row `parent` of the old table, which
--- became the row `under` of the new one, and its line of parents: the distances, old and new, lead back. A row's size
--- is written when it is closed. So no array and no stack is needed.
+-- became the row `under` of the new one, and its line of parents: the distances, old and new, lead back. A row that is
+-- opened has its old size, until its new size is written when it is closed. So no array and no stack is needed.
 -- Assumes nothing.
 use Prim.Native.Nat.{ℕ, zero, suc, _+_, _-_, _≤_}
 use native.Mathlib.Omega.{arith}
@@ -48,12 +48,13 @@ abbrev pub pasted : State → Forest ℕ → ℕ → List (Change ℕ) → State
 pasted s f i cs =
     state i (s .out + count f) (s .parent) (s .under) (s .new ⧺ rows (s .out - s .under) f) cs
 
--- the next old row becomes the next new row, with the value a, and is open
-abbrev pub opened : State → ℕ → List (Change ℕ) → State
-opened s a cs =
-    state (suc (s .row)) (suc (s .out)) (s .row) (s .out) (s .new ⧺ oneRow (s .out - s .under) 0 a) cs
-
 module _ (t : Table) where
+  -- the next old row becomes the next new row, with the value a and its old size, and is open
+  abbrev pub opened : State → ℕ → List (Change ℕ) → State
+  opened s a cs =
+      let v = oneRow (s .out - s .under) (sizeAt t (s .row)) a in
+      state (suc (s .row)) (suc (s .out)) (s .row) (s .out) (s .new ⧺ v) cs
+
   -- the open row is closed, and its parent is open
   abbrev pub closed : State → State
   closed s =
@@ -154,7 +155,7 @@ module _ (t : Table) where
   abbrev pub Forward : State → State → Type 0
   Forward s v = (s .row ≤ v .row) × (s .out ≤ v .out)
 
-  step-forward : (s : State) → Forward s (step s)
+  pub step-forward : (s : State) → Forward s (step s)
   step-forward s =
       step-elim (Forward s) s (λ f cs. omega arith) (λ a cs. omega arith) (λ f cs. omega arith) (omega arith)
 

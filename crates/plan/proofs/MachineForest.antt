@@ -137,12 +137,12 @@ module _ (t : Table) where
 
 -- ---- the new rows
 module _ {o j : ℕ} {u : Table} (g : Good o j u) where
-  good-pasted : (f : Forest ℕ) → Good (o + count f) j (u ⧺ rows (o - j) f)
+  pub good-pasted : (f : Forest ℕ) → Good (o + count f) j (u ⧺ rows (o - j) f)
   good-pasted f = (tall-beside u (rows (o - j) f) (g .0) (tall-rows (o - j) f), omega arith)
 
-  good-opened : (a : ℕ) → Good (suc o) o (u ⧺ oneRow (o - j) 0 a)
-  good-opened a =
-      (tall-is (add-one o) (tall-beside u (oneRow (o - j) 0 a) (g .0) (tall-one (o - j) 0 a)), omega arith)
+  pub good-opened : (s a : ℕ) → Good (suc o) o (u ⧺ oneRow (o - j) s a)
+  good-opened s a =
+      (tall-is (add-one o) (tall-beside u (oneRow (o - j) s a) (g .0) (tall-one (o - j) s a)), omega arith)
 
   good-closed : (n a : ℕ) (k : Forest ℕ) → Good (suc o + count k) j (u ⧺ (oneRow (o - j) n a ⧺ rows 1 k))
   good-closed n a k =
@@ -151,15 +151,15 @@ module _ {o j : ℕ} {u : Table} (g : Good o j u) where
       (tall-is (omega arith) (tall-beside u (v ⧺ rows 1 k) (g .0) h), omega arith)
 
   -- the size of an open row is written behind its children
-  sized-open : (d n a : ℕ) (v : Table) → sized ((u ⧺ oneRow d 0 a) ⧺ v) o n ≡ u ⧺ (oneRow d n a ⧺ v)
-  sized-open d n a v =
+  sized-open : (d s n a : ℕ) (v : Table) → sized ((u ⧺ oneRow d s a) ⧺ v) o n ≡ u ⧺ (oneRow d n a ⧺ v)
+  sized-open d s n a v =
       table-eq (append-snoc (u .dist) d (v .dist))
-      (ap (λ (l : List ℕ). set l o n) (append-snoc (u .size) 0 (v .size))
-      ∙ set-at (u .size) 0 (v .size) n o (g .0 .size))
+      (ap (λ (l : List ℕ). set l o n) (append-snoc (u .size) s (v .size))
+      ∙ set-at (u .size) s (v .size) n o (g .0 .size))
       (append-snoc (u .value) a (v .value))
 
-  dist-open : (d a : ℕ) (v : Table) → distAt ((u ⧺ oneRow d 0 a) ⧺ v) o ≡ d
-  dist-open d a v =
+  dist-open : (d s a : ℕ) (v : Table) → distAt ((u ⧺ oneRow d s a) ⧺ v) o ≡ d
+  dist-open d s a v =
       ap (λ (l : List ℕ). getD l o 0) (append-snoc (u .dist) d (v .dist))
       ∙ getD-at (u .dist) d (v .dist) 0 o (g .0 .dist)
 
@@ -210,15 +210,15 @@ module _ (t : Table) where
     to-closed o j u (act p x ∷ cs) z = rw (old-size t b q a k r h, eq-eqb e (b + suc (count k)) (omega arith))
     to-closed o j u (insert p y s ∷ cs) z = rw (z, old-size t b q a k r h, eq-eqb e (b + suc (count k)) (omega arith))
 
-    closes : (o j c : ℕ) (u : Table) (k′ : Forest ℕ) (cs : List (Change ℕ)) → Good o j u
-        → closed t (after e (suc o) b o (u ⧺ oneRow (o - j) 0 c) (k′, cs))
+    closes : (o j s c : ℕ) (u : Table) (k′ : Forest ℕ) (cs : List (Change ℕ)) → Good o j u
+        → closed t (after e (suc o) b o (u ⧺ oneRow (o - j) s c) (k′, cs))
         ≡ state e (suc o + count k′) q j (u ⧺ (oneRow (o - j) (suc (count k′)) c ⧺ rows 1 k′)) cs
-    closes o j c u k′ cs g =
+    closes o j s c u k′ cs g =
         let d : suc o - o ≡ 1 = omega arith in
         let n : suc o + count k′ - o ≡ suc (count k′) = omega arith in
         state-eq refl refl (omega (arith, old-dist t b q a k r h))
-        (omega (arith, dist-open g (o - j) c (rows (suc o - o) k′)))
-        (sized-open g (o - j) (suc o + count k′ - o) c (rows (suc o - o) k′)
+        (omega (arith, dist-open g (o - j) s c (rows (suc o - o) k′)))
+        (sized-open g (o - j) s (suc o + count k′ - o) c (rows (suc o - o) k′)
         ∙ (λ w. u ⧺ (oneRow (o - j) (n w) c ⧺ rows (d w) k′)))
 
     ends : (o j c : ℕ) (u : Table) (k′ r′ : Forest ℕ) (cs : List (Change ℕ)) → j ≤ o
@@ -242,16 +242,17 @@ module _ (t : Table) where
       R es = pass e (suc q) r es
 
       both-reach : (j o c : ℕ) (u : Table) (cs : List (Change ℕ)) → Good o j u
-          → Reach t (state (suc b) (suc o) b o (u ⧺ oneRow (o - j) 0 c) cs) (after n o q j u (both c K R cs))
+          → Reach t (state (suc b) (suc o) b o (u ⧺ oneRow (o - j) (sizeAt t b) c) cs) (after n o q j u (both c K R cs))
       both-reach j o c u cs g =
           let y : Out ℕ = K cs in
           let z : Out ℕ = R (y .1) in
           let o′ : ℕ = suc o + count (y .0) in
-          let v : Table = u ⧺ oneRow (o - j) 0 c in
+          let s : ℕ = sizeAt t b in
+          let v : Table = u ⧺ oneRow (o - j) s c in
           let w : Table = u ⧺ (oneRow (o - j) (suc (count (y .0))) c ⧺ rows 1 (y .0)) in
           let all-in = pass-ready (suc b) (suc b) e k refl cs in
-          reach-trans t (wk o (suc o) v cs (good-opened g c))
-          (step-to t (to-closed o′ o (v ⧺ rows (suc o - o) (y .0)) (y .1) all-in ∙ closes o j c u (y .0) (y .1) g)
+          reach-trans t (wk o (suc o) v cs (good-opened g s c))
+          (step-to t (to-closed o′ o (v ⧺ rows (suc o - o) (y .0)) (y .1) all-in ∙ closes o j s c u (y .0) (y .1) g)
           (subst (Reach t (state e o′ q j w (y .1))) (ends o j c u (y .0) (z .0) (z .1) (omega arith))
           (wr j o′ w (y .1) (good-closed g (suc (count (y .0))) c (y .0)))))
 

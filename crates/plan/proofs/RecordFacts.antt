@@ -16,7 +16,7 @@ use Rattle.plan.specs.declared.Before.{Before}
 use Rattle.plan.specs.declared.Before.the-variants.{After}
 use Rattle.plan.specs.Tree.{Forest, none, tree, count, from, children}
 use Rattle.plan.specs.Table.{Table, tableOf, sound, run}
-use Rattle.plan.specs.Change.{Change, opens, openPlace}
+use Rattle.plan.specs.Change.{Change, opens, openPlace, location}
 use Rattle.plan.specs.Records.{isInsert, isRename, isReplace, known, located, runs, follows, alone}
 use Rattle.plan.specs.Open.{sizeAt}
 use Rattle.plan.proofs.Kit.{T-and, T-or, eq→eqb, All, cond-elim, by-side}
@@ -24,6 +24,7 @@ use Rattle.plan.proofs.Sound.{TreeOf, sound-tree}
 use Rattle.plan.proofs.FourKinds.{by-kind}
 use Rattle.plan.proofs.Tested.{Passes, PassAll}
 use Rattle.plan.proofs.Stretch.{Room}
+use Rattle.plan.proofs.MachineBetween.{Far}
 use Rattle.plan.proofs.MachineTable.{rooted, tall-tree}
 use Rattle.plan.proofs.Values.{valued, values, valued-delete, valued-insert, valued-rename, valued-replace}
 
@@ -132,3 +133,50 @@ module _ {A : Type 0} (f : Forest A) (i : Table) where
   pub values-rooted : (b : Before) (l : List Record) → PassAll f i b l → T (rooted (values i l))
   values-rooted b [] h = tt
   values-rooted b (r ∷ rs) h = first-renames r (values i rs) (h .0 .kind-known) (h .0 .in-place)
+
+  -- ---- the records behind a rename are for later rows
+  not-before : (r r′ : Record) → T (follows (After r) r′) → r .location ≤ r′ .location
+  unfolding follows
+  not-before r r′ h =
+      let same : Bool = eqb (r .location) (r′ .location) in
+      T-or (ltb (r .location) (r′ .location)) _ (λ n. omega (arith, ltb→lt (r .location) (r′ .location) n))
+      (λ n. omega (arith, eqb→eq (r .location) (r′ .location) (T-and same _ n .0))) h
+
+  past-rename : (r r′ : Record) → r .kind ≡ 3 → Passes f i (After r) r′ → r .location < r′ .location
+  unfolding follows alone
+  past-rename r r′ k h =
+      let same : Bool = eqb (r .location) (r′ .location) in
+      let no : T (isInsert r) → ⊥ = λ n. omega (arith, eqb→eq (r .kind) 2 n) in
+      T-or (ltb (r .location) (r′ .location)) _ (λ n. ltb→lt (r .location) (r′ .location) n)
+      (λ n.
+      let w = T-and same _ n in
+      absurd (T-or (not same) _ (λ m. T-not same m (w .0))
+      (λ m.
+      T-or (isInsert r) (isInsert r′) no
+      (λ j.
+      T-or (not (isInsert r′)) _ (λ x. T-not (isInsert r′) x j) (λ x. no (T-and (isInsert r) _ x .0)) (w .1)) m)
+      (h .by-itself))) (h .in-order)
+
+  all-past : (n : ℕ) (r : Record) (rs : List Record) → n ≤ r .location → PassAll f i (After r) rs
+      → All (λ x. n ≤ x .location) rs
+  all-past n r [] l h = tt
+  all-past n r (r′ ∷ rs) l h =
+      let m : n ≤ r′ .location = omega (arith, not-before r r′ (h .0 .in-order)) in
+      (m, all-past n r′ rs m (h .1))
+
+  pub behind-rename : (r : Record) (rs : List Record) → r .kind ≡ 3 → PassAll f i (After r) rs
+      → All (λ x. r .location + 1 ≤ x .location) rs
+  behind-rename r [] k h = tt
+  behind-rename r (r′ ∷ rs) k h =
+      let m : r .location + 1 ≤ r′ .location = omega (arith, past-rename r r′ k (h .0)) in
+      (m, all-past (r .location + 1) r′ rs m (h .1))
+
+  place-valued : (r : Record) → T (known r) → location (valued i r) ≡ r .location
+  place-valued r k =
+      by-kind r k (λ e. ap location (valued-delete i r e)) (λ e. ap location (valued-insert i r e))
+      (λ e. ap location (valued-rename i r e)) (λ e. ap location (valued-replace i r e))
+
+  pub far-values : (b : Before) (n : ℕ) (rs : List Record) → PassAll f i b rs → All (λ x. n + 1 ≤ x .location) rs
+      → Far n (values i rs)
+  far-values b n [] h l = tt
+  far-values b n (r ∷ rs) h l = omega (arith, place-valued r (h .0 .kind-known), l .0)

@@ -8,9 +8,10 @@ use lib.Dec.{T, leb, ltb, eqb}
 use lib.ListN.{length, getD}
 use Rattle.plan.specs.declared.Record.{Record}
 use Rattle.plan.specs.declared.Before.{Before}
+use Rattle.plan.specs.declared.Before.the-variants.{Nothing, After}
 use Rattle.plan.specs.Table.{Table, table, sound, run}
 use Rattle.plan.specs.Paint.{old, plan}
-use Rattle.plan.specs.Records.{located, failing}
+use Rattle.plan.specs.Records.{isInsert, isReplace, located, runs, failing}
 use Rattle.trials.specs.declared.Trial.{Trial}
 use Rattle.trials.specs.declared.Trial.the-variants.{Passed, Failed}
 
@@ -39,6 +40,15 @@ abbrev pub runAt : Table → ℕ → Bool
 runAt i f =
     let m = length (i .size) in
     ltb f m && (leb (f + getD (i .size) f 0) m && sound (run i f))
+
+-- does the record before bring the same run?
+abbrev pub sameRun : Before → Record → Bool
+sameRun Nothing r = false
+sameRun (After p) r = (isInsert p || isReplace p) && eqb (p .from) (r .from)
+
+-- the record before passed test 6
+pub record RunTested (i : Table) (b : Before) : Type 0 where
+  pub passed : (p : Record) → b ≡ After p → T (runs i p)
 
 -- test 5 is answered right, whatever values make the distances and sizes a sound table
 abbrev pub RightPlace : (dist size : List ℕ) → Record → Trial → Type 0

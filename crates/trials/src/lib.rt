@@ -9,7 +9,7 @@ ghost use mathlib.Core.Path.{_≡_};
 ghost use lib.ListN.{length};
 ghost use Rattle.plan.specs.Table.{table};
 ghost use Rattle.plan.specs.Records.{known};
-ghost use Rattle.trials.specs.Trial.{trial, Even, RightTrial};
+ghost use Rattle.trials.specs.Trial.{trial, Even, RunTested, RightTrial};
 
 pub mod order;
 pub mod place;
@@ -44,7 +44,9 @@ pub fn tried(
     before: Before,
     r: Record,
 ) -> Trial
-    requires { ⌜ (length (now dist) ≡ length (now size)) × Even (table (now idist) (now isize) (now ivalue)) ⌝ }
+    requires { ⌜ (
+        let i = table (now idist) (now isize) (now ivalue) in
+        (length (now dist) ≡ length (now size)) × Even i × RunTested i before) ⌝ }
     ensures { λ t. let i = table (now (idist .entry)) (now (isize .entry)) (now (ivalue .entry)) in
         ⌜ RightTrial (now (dist .entry)) (now (size .entry)) i before r t ⌝ }
 {
@@ -56,7 +58,7 @@ pub fn tried(
     let Trial::Passed = location else {
         return location;
     };
-    let run = test_run(idist, isize, ivalue, r);
+    let run = test_run(idist, isize, ivalue, before, r);
     let Trial::Passed = run else {
         return run;
     };

@@ -1,5 +1,6 @@
 // Test 6: the run of a record among the insertions.
 use crate::Trial;
+use plan::Before;
 use plan::Record;
 use plan::wide;
 use table::sound;
@@ -7,7 +8,7 @@ ghost use mathlib.Core.Path.{_≡_};
 ghost use mathlib.Core.Bool.{_||_};
 ghost use Rattle.plan.specs.Table.{table};
 ghost use Rattle.plan.specs.Records.{isInsert, isReplace, runs};
-ghost use Rattle.trials.specs.Trial.{trial, runAt, Even};
+ghost use Rattle.trials.specs.Trial.{trial, runAt, sameRun, Even, RunTested};
 
 // Does it bring a run?
 pub fn has_run(r: Record) -> bool
@@ -39,13 +40,32 @@ fn run_at(idist: &[u32], isize: &[u32], ivalue: &[u32], f: usize) -> bool
     sound::is_sound(&idist[f..e], &isize[f..e], &ivalue[f..e])
 }
 
+// Does the record before bring the same run? Then it is tested already.
+fn is_tested(before: Before, r: Record) -> bool
+    ensures { λ b. ⌜ b ≡ sameRun before r ⌝ }
+{
+    let Before::After(p) = before else {
+        return false;
+    };
+    if !has_run(p) {
+        return false;
+    }
+    if p.from != r.from {
+        return false;
+    }
+    true
+}
+
 // Test 6: an insert or a replace has a run.
-pub fn test_run(idist: &[u32], isize: &[u32], ivalue: &[u32], r: Record) -> Trial
-    requires { ⌜ Even (table (now idist) (now isize) (now ivalue)) ⌝ }
+pub fn test_run(idist: &[u32], isize: &[u32], ivalue: &[u32], before: Before, r: Record) -> Trial
+    requires { ⌜ (let i = table (now idist) (now isize) (now ivalue) in Even i × RunTested i before) ⌝ }
     ensures { λ t. let i = table (now (idist .entry)) (now (isize .entry)) (now (ivalue .entry)) in
         ⌜ t ≡ trial (runs i r) 6 ⌝ }
 {
     if !has_run(r) {
+        return Trial::Passed;
+    }
+    if is_tested(before, r) {
         return Trial::Passed;
     }
     if !run_at(idist, isize, ivalue, wide(r.from)) {

@@ -11,7 +11,7 @@ use Rattle.plan.proofs.Stretch.{Room, later-on}
 use Rattle.plan.proofs.Machine.{State, Reach, stop, reach-trans, join}
 use Rattle.plan.proofs.MachineBetween.{Away}
 use Rattle.moves.specs.declared.Cursor.{Cursor}
-use Rattle.walk.specs.Walk.{Elsewhere, stateOf, Stands, Ends, Kept, Ready, Moved}
+use Rattle.walk.specs.Walk.{Elsewhere, stateOf, Stands, Ends, Kept, Ready, Moved, Readied, Went}
 
 pub away : (b : Bool) (c : Cursor) (p q : ℕ) → b ≡ true → Elsewhere b c p q → Away p q (c .row) (c .parent)
 away b c p q e h = subst (λ (x : Bool). Elsewhere x c p q) e h
@@ -57,11 +57,11 @@ module _ {t u : Table} where
         room = room-kept k (e .room);
       }
 
-  pub moved-none : {c : Cursor} {p q limit : ℕ} → Stands t u c → Moved t u c p q limit u c
+  pub moved-none : {c : Cursor} {p q : ℕ} → Stands t u c → Moved t u c p q u c
   moved-none {c} s = record { reach = λ cs a. stop; stands = s; kept = kept-none (c .out) u; grows = omega arith }
 
-  pub moved-trans : {u′ u″ : Table} {c c′ c″ : Cursor} {p q limit : ℕ} → Moved t u c p q limit u′ c′
-      → Moved t u′ c′ p q limit u″ c″ → Moved t u c p q limit u″ c″
+  pub moved-trans : {u′ u″ : Table} {c c′ c″ : Cursor} {p q : ℕ} → Moved t u c p q u′ c′
+      → Moved t u′ c′ p q u″ c″ → Moved t u c p q u″ c″
   moved-trans a b =
       record {
         reach = λ cs h. reach-trans t (a .reach cs h) (b .reach cs h);
@@ -70,8 +70,8 @@ module _ {t u : Table} where
         grows = omega (arith, a .grows, b .grows);
       }
 
-  pub ready-on : {u′ : Table} {c c′ : Cursor} {p q limit : ℕ} → Ready t u c p q limit → Moved t u c p q limit u′ c′
-      → Ready t u′ c′ p q limit
+  pub ready-on : {u′ : Table} {c c′ : Cursor} {p q : ℕ} → Ready t u c p q → Moved t u c p q u′ c′
+      → Ready t u′ c′ p q
   ready-on r m =
       record {
         tree-of = r .tree-of;
@@ -80,3 +80,46 @@ module _ {t u : Table} where
         aim = r .aim;
         ends = ends-on (r .ends) (m .kept) (m .reach (r .left) (r .aim));
       }
+
+-- ---- with values ahead
+module _ {t u : Table} where
+  pub went-none : {c : Cursor} {p q : ℕ} → Went t u c p q u c
+  went-none {c} =
+      record {
+        went =
+            λ l A R.
+            record {
+              moved = moved-none (R .stands);
+              ahead = A;
+              level = refl;
+              onward = omega arith;
+              same = refl;
+            };
+      }
+
+  pub went-trans : {u′ u″ : Table} {c c′ c″ : Cursor} {p q : ℕ} → Went t u c p q u′ c′ → Went t u′ c′ p q u″ c″
+      → Went t u c p q u″ c″
+  went-trans a b =
+      record {
+        went =
+            λ l A R.
+            let x = a .went l A R in
+            let y = b .went l (x .ahead) (ready-on R (x .moved)) in
+            record {
+              moved = moved-trans (x .moved) (y .moved);
+              ahead = y .ahead;
+              level = omega (arith, x .level, y .level);
+              onward = omega (arith, x .onward, y .onward);
+              same = y .same ∙ x .same;
+            };
+      }
+
+  pub readied-on : {u′ : Table} {c c′ : Cursor} {p q : ℕ} → Readied t u c p q → Went t u c p q u′ c′
+      → Readied t u′ c′ p q
+  readied-on r w =
+      let x = w .went (r .values) (r .ahead) (r .ready) in
+      record { values = r .values; ahead = x .ahead; ready = ready-on (r .ready) (x .moved) }
+
+  pub went-kept : {u′ : Table} {c c′ : Cursor} {p q : ℕ} → Readied t u c p q → Went t u c p q u′ c′
+      → Kept (c′ .out) u u′
+  went-kept r w = w .went (r .values) (r .ahead) (r .ready) .moved .kept

@@ -1,20 +1,23 @@
 -- New rows behind those that are there: what a move writes becomes the next rows, and the rows behind them stay.
 -- Assumes nothing.
-use Prim.Native.Nat.{ℕ, suc, _+_, _≤_, _<_}
+use Prim.Native.Nat.{ℕ, suc, _+_, _-_, _≤_, _<_}
 use native.Mathlib.Omega.{arith}
 use native.Mathlib.Numerals.{add-one}
 use mathlib.Core.Path.{_≡_, refl, sym, ap, _∙_}
 use mathlib.Core.List.{List, [], _∷_, _++_, append-assoc}
-use lib.ListN.{length, set, take, drop, length-drop, length-append}
-use lib.Seq.{set-split, set-at, getD-take, length-take-le, append-snoc}
-use Rattle.plan.specs.Tree.{Forest, none, tree, count}
+use lib.ListN.{length, getD, set, take, drop, length-drop, length-append}
+use lib.Seq.{set-split, set-at, getD-take, getD-append-add, length-take-le, append-snoc, take-append-le}
+use Rattle.plan.specs.Tree.{Forest, none, tree, count, labels, sizes, dists}
 use Rattle.plan.specs.Table.{Table, table}
 use Rattle.plan.specs.Change.{Change}
 use Rattle.plan.specs.Open.{distAt}
 use Rattle.plan.proofs.Stretch.{table-eq, _⧺_, oneRow, rows, firstRows, laterRows, Tall, Room, tall-one, tall-rows, tall-is, tall-beside, tall-first, room-less, first-beside, later-beside, first-first}
+use Rattle.plan.proofs.Columns.{length-dists}
 use Rattle.plan.proofs.Machine.{state, state-eq}
+use Rattle.plan.proofs.MachineForest.{Old}
 use Rattle.moves.specs.declared.Cursor.{Cursor}
-use Rattle.moves.specs.Written.{copied, laid, rowed}
+use Rattle.moves.specs.Written.{copied, laid, hung, rehung, stretched, rowed}
+use Rattle.moves.proofs.Copies.{hung-more, hung-else}
 use Rattle.walk.specs.Walk.{stateOf, Kept}
 
 -- the n rows of v are written into the columns u at row `at`
@@ -66,6 +69,16 @@ module _ {at n : ℕ} {v u u′ : Table} (g : Grown at n v u u′) where
       ∙ (ap (firstRows at) grown-first ∙ first-beside (firstRows at u) v h) in
       sym (getD-take at (u′ .dist) z 0 l) ∙ (ap (λ (x : Table). distAt x z) e ∙ getD-take at (u .dist) z 0 l)
 
+  -- a new distance
+  pub grown-new : (z x : ℕ) → x ≡ at + z → z < n → distAt u′ x ≡ distAt v z
+  grown-new z x e l =
+      let r : Room at u = room-less (omega arith) (g .room) in
+      let h = tall-first r .dist in
+      sym (getD-take (at + n) (u′ .dist) x 0 (omega arith))
+      ∙ (ap (λ (y : Table). distAt y x) grown-first
+      ∙ (ap (λ (y : ℕ). getD (take at (u .dist) ++ v .dist) y 0) (omega arith)
+      ∙ getD-append-add (take at (u .dist)) (v .dist) z 0))
+
   -- the machine's state with these rows
   pub grown-state : (c : Cursor) → c .out ≡ at + n → (cs : List (Change ℕ))
       → stateOf u′ c cs ≡ state (c .row) (at + n) (c .parent) (c .under) (firstRows at u ⧺ v) cs
@@ -108,5 +121,76 @@ laid-grown u at t f n d d₀ a k r e h =
           table (set (y .dist) at d) (y .size) (y .value))
           ∙ table-eq (set-top at d d₀ (x .dist) _ (z .dist) l) refl refl;
       tall = tall-is (omega arith) (tall-rows d (tree a k none));
+      room = r;
+    }
+
+-- ---- a stretch: the first rows of a forest, under a row that stands d rows before
+rehung-append : (d i : ℕ) (x y : List ℕ) → rehung d i (x ++ y) ≡ rehung d i x ++ rehung d (i + length x) y
+unfolding rehung
+rehung-append d i [] y = ap (λ (k : ℕ). rehung d k y) (omega arith)
+rehung-append d i (a ∷ x) y =
+    ap (λ (l : List ℕ). hung d i a ∷ l)
+    (rehung-append d (suc i) x y ∙ ap (λ (k : ℕ). rehung d (suc i) x ++ rehung d k y) (omega arith))
+
+-- the children of a row that is there already stay with it
+rehung-kids : (d i e : ℕ) (f : Forest ℕ) → e ≤ i → rehung d i (dists e f) ≡ dists e f
+unfolding rehung
+rehung-kids d i e none h = refl
+rehung-kids d i e (tree a k r) h =
+    let n = length-dists 1 k in
+    rw (hung-else d e i h, rehung-append d (suc i) (dists 1 k) (dists (e + suc (count k)) r))
+    (λ w. e ∷ (rehung-kids d (suc i) 1 k (omega arith) w
+    ++ rehung-kids d (suc i + length (dists 1 k)) (e + suc (count k)) r (omega arith) w))
+
+-- the trees of the forest themselves hang on the row before it
+rehung-trees : (d i b : ℕ) (f : Forest ℕ) → 0 < b → rehung d i (dists (b + i) f) ≡ dists (d + i) f
+unfolding rehung
+rehung-trees d i b none h = refl
+rehung-trees d i b (tree a k r) h =
+    let j : ℕ = suc i + length (dists 1 k) in
+    let e : b + i + suc (count k) ≡ b + j = omega (arith, length-dists 1 k) in
+    let w : d + j ≡ d + i + suc (count k) = omega (arith, length-dists 1 k) in
+    rw (hung-more d (b + i) i (omega arith), rehung-append d (suc i) (dists 1 k) (dists (b + i + suc (count k)) r))
+    (λ y. (d + i) ∷ (rehung-kids d (suc i) 1 k (omega arith) y
+    ++ (ap (λ (x : ℕ). rehung d j (dists x r)) e ∙ (rehung-trees d j b r h ∙ ap (λ (x : ℕ). dists x r) w)) y))
+
+-- the first n of what begins with a column of the forest
+begins : (n : ℕ) (l x y : List ℕ) → l ≡ x ++ y → n ≤ length x → take n l ≡ take n x
+begins n l x y e h = ap (take n) e ∙ take-append-le n x y h
+
+begins-dists : (n d f q : ℕ) (l y : List ℕ) (g : Forest ℕ) → l ≡ dists (f - q) g ++ y → q < f → n ≤ count g
+    → take n (rehung d 0 l) ≡ take n (dists d g)
+begins-dists n d f q l y g e z h =
+    let x : List ℕ = dists (f - q) g in
+    let w : rehung d 0 x ≡ dists d g =
+    ap (λ (b : ℕ). rehung d 0 (dists b g)) (omega arith)
+    ∙ (rehung-trees d 0 (f - q) g (omega arith) ∙ ap (λ (b : ℕ). dists b g) (omega arith)) in
+    begins n (rehung d 0 l) (dists d g) (rehung d (0 + length x) y)
+    (ap (rehung d 0) e ∙ (rehung-append d 0 x y ∙ ap (λ (k : List ℕ). k ++ rehung d (0 + length x) y) w))
+    (omega (arith, length-dists d g))
+
+pub stretched-grown : (u : Table) (at : ℕ) (t : Table) (f n d q : ℕ) (g : Forest ℕ) → Room (at + n) u → Old t f q g
+    → q < f → n ≤ count g → Grown at n (firstRows n (rows d g)) u (stretched u at t f n d)
+unfolding copied
+stretched-grown u at t f n d q g r h z l =
+    let e = h .is in
+    let v = h .behind in
+    let a = tall-rows d g in
+    let x : Table = firstRows at u in
+    let y : Table = laterRows (at + n) u in
+    let columns
+    : table (take n (rehung d 0 (drop f (t .dist)))) (take n (drop f (t .size))) (take n (drop f (t .value)))
+    ≡ firstRows n (rows d g) =
+    table-eq (begins-dists n d f q (drop f (t .dist)) (v .dist) g (ap (λ (w : Table). w .dist) e) z l)
+    (begins n (drop f (t .size)) (sizes g) (v .size) (ap (λ (w : Table). w .size) e) (omega (arith, a .size)))
+    (begins n (drop f (t .value)) (labels g) (v .value) (ap (λ (w : Table). w .value) e) (omega (arith, a .value))) in
+    record {
+      is = λ w. (x ⧺ columns w) ⧺ y;
+      tall =
+          tall-first (record {
+            dist = omega (arith, a .dist);
+            size = omega (arith, a .size);
+            value = omega (arith, a .value);
+          });
       room = r;
     }

@@ -14,12 +14,19 @@ use Rattle.plan.proofs.Stretch.{firstRows, laterRows, Room}
 use Rattle.plan.proofs.Machine.{State, state, step, Reach}
 use Rattle.plan.proofs.MachineBetween.{Aim, Away}
 use Rattle.plan.proofs.Line.{Line}
+use Rattle.plan.proofs.Revalued.{valuing}
 use Rattle.moves.specs.declared.Cursor.{Cursor}
+use Rattle.moves.specs.Written.{Ahead}
 
 -- a test says whether the pass is not yet where row p is next and q is open
 abbrev pub Elsewhere : Bool → (c : Cursor) (p q : ℕ) → Type 0
 Elsewhere true c p q = Away p q (c .row) (c .parent)
 Elsewhere false c p q = (c .row ≡ p) × (c .parent ≡ q)
+
+-- r is the nearer of two rows
+pub record Nearer (a b r : ℕ) : Type 0 where
+  pub first : a < b → r ≡ a
+  pub second : b ≤ a → r ≡ b
 
 -- ---- where the pass stands
 -- as a state of the machine: the new rows that are there, and the changes left
@@ -49,19 +56,35 @@ pub record Kept (n : ℕ) (u u′ : Table) : Type 0 where
   pub size : length (u′ .size) ≡ length (u .size)
   pub value : length (u′ .value) ≡ length (u .value)
 
--- ---- on the way to where row p is next and q is open; no change is for a row before `limit`
-pub record Ready (t u : Table) (c : Cursor) (p q limit : ℕ) : Type 0 where
+-- ---- on the way to where row p is next and q is open
+pub record Ready (t u : Table) (c : Cursor) (p q : ℕ) : Type 0 where
   pub tree-of : TreeOf t
   pub stands : Stands t u c
   pub left : List (Change ℕ)
-  pub aim : Aim t p q limit left
+  pub aim : Aim t p q left
   pub ends : Ends t u c left
 
-pub record Moved (t u : Table) (c : Cursor) (p q limit : ℕ) (u′ : Table) (c′ : Cursor) : Type 0 where
-  pub reach : (cs : List (Change ℕ)) → Aim t p q limit cs → Reach t (stateOf u c cs) (stateOf u′ c′ cs)
+pub record Moved (t u : Table) (c : Cursor) (p q : ℕ) (u′ : Table) (c′ : Cursor) : Type 0 where
+  pub reach : (cs : List (Change ℕ)) → Aim t p q cs → Reach t (stateOf u c cs) (stateOf u′ c′ cs)
   pub stands : Stands t u′ c′
   pub kept : Kept (c′ .out) u u′
   pub grows : c .out ≤ c′ .out
+
+-- ---- so too on the table with the values l, of which some are ahead
+pub record Readied (t u : Table) (c : Cursor) (p q : ℕ) : Type 0 where
+  pub values : List ℕ
+  pub ahead : Ahead values (t .value) (u .value) c
+  pub ready : Ready (valuing t values) u c p q
+
+pub record Carried (t : Table) (l : List ℕ) (u : Table) (c : Cursor) (p q : ℕ) (u′ : Table) (c′ : Cursor) : Type 0 where
+  pub moved : Moved (valuing t l) u c p q u′ c′
+  pub ahead : Ahead l (t .value) (u′ .value) c′
+  pub level : c′ .out + c .row ≡ c .out + c′ .row
+  pub onward : c .row ≤ c′ .row
+  pub same : c′ .till ≡ c .till
+
+pub record Went (t u : Table) (c : Cursor) (p q : ℕ) (u′ : Table) (c′ : Cursor) : Type 0 where
+  pub went : (l : List ℕ) → Ahead l (t .value) (u .value) c → Ready (valuing t l) u c p q → Carried t l u c p q u′ c′
 
 -- how far it is to the end
 abbrev pub ahead : Table → Cursor → ℕ

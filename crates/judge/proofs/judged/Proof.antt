@@ -7,7 +7,7 @@ use borrow.Author.Tests.{not-true, not-false}
 use lib.ListN.{length}
 use Rattle.plan.specs.Table.{table}
 use Rattle.plan.specs.Lent.{lent}
-use Rattle.judge.proofs.Listing.{levels, uneven-list, Left, left-all, next-record, left-behind, last-record, whole-list}
+use Rattle.judge.proofs.Listing.{levels, uneven-list, Left, wanted-more, none-wanted, left-all, next-record, left-behind, last-record, whole-list}
 use Rattle.judge.proofs.judged.Statement.{statement}
 use Rattle.judge.proofs.judged.Tie as tie
 
@@ -30,40 +30,61 @@ begin-requires c κs = search needs
 loop-holds : tie.Need-loop-holds Inv-loop μ-loop
 loop-holds c = left-all (c .begin .ensures)
 
+looked-at-requires : tie.Need-looked-at-requires Inv-loop μ-loop
+looked-at-requires c κs = search needs
+
 record-at-requires : tie.Need-record-at-requires Inv-loop μ-loop
 record-at-requires c κs =
-    let level = c .before .before .before in
-    (levels _ (sym (level .before .is-level .ensures) ∙ not-false _ (level .if1 .left)), c .loop-test .taken)
+    let turn = c .before .before in
+    let level = turn .before .before in (
+      levels _ (sym (level .before .is-level .ensures) ∙ not-false _ (level .if1 .left)),
+      wanted-more (turn .loop .e) _ (c .before .looked-at .ensures) (c .if2 .taken),
+    )
 
 next-requires : tie.Need-next-requires Inv-loop μ-loop
 next-requires c κs =
-    let turn = c .before in
-    next-record (turn .before .loop .inv) (turn .loop-test .taken) (c .record-at .ensures)
+    let tested = c .before in
+    let turn = tested .before .before in
+    next-record (turn .loop .inv) (wanted-more (turn .loop .e) _ (tested .before .looked-at .ensures) (tested .if2 .taken))
+    (c .record-at .ensures)
 
 add-j : tie.Need-add-j Inv-loop μ-loop
 add-j c =
-    let turn = c .before .before in
-    let asked = turn .before .before .before .before .before in
+    let tested = c .before .before in
+    let turn = tested .before .before in
+    let asked = turn .before .before .before .before in
     let start = asked .before .before .before .before .before .before .before .before .before .before .before in
-    omega (arith, turn .loop-test .taken, start .good .1 .1 .1 .0 .0)
+    omega (
+      arith,
+      wanted-more (turn .loop .e) _ (tested .before .looked-at .ensures) (tested .if2 .taken),
+      start .good .1 .1 .1 .0 .0,
+    )
 
 loop-less : tie.Need-loop-less Inv-loop μ-loop
-loop-less c = omega arith
+loop-less c =
+    let tested = c .before .before in
+    let turn = tested .before .before in
+    omega (arith, wanted-more (turn .loop .e) _ (tested .before .looked-at .ensures) (tested .if2 .taken))
 
 loop-again : tie.Need-loop-again Inv-loop μ-loop
 loop-again c =
     let read = c .before in
-    let turn = read .before in
-    left-behind (turn .before .loop .inv) (turn .loop-test .taken) (read .record-at .ensures) (c .next .ensures)
+    let tested = read .before in
+    let turn = tested .before .before in
+    left-behind (turn .loop .inv) (wanted-more (turn .loop .e) _ (tested .before .looked-at .ensures) (tested .if2 .taken))
+    (read .record-at .ensures) (c .next .ensures)
 
 end-requires : tie.Need-end-requires Inv-loop μ-loop
-end-requires c κs = last-record (c .before .loop .inv) (c .loop-test .left)
+end-requires c κs =
+    last-record (c .before .before .loop .inv)
+    (none-wanted (c .before .before .loop .e) _ (c .before .looked-at .ensures) (c .if2 .left))
 
 returns-2 : tie.Need-returns-2 Inv-loop μ-loop
 returns-2 c =
-    let turn = c .before in
-    let level = turn .before .before .before in
-    whole-list (turn .before .loop .inv) (turn .loop-test .left)
+    let tested = c .before in
+    let turn = tested .before .before in
+    let level = turn .before .before in
+    whole-list (turn .loop .inv) (none-wanted (turn .loop .e) _ (tested .before .looked-at .ensures) (tested .if2 .left))
     (sym (level .before .is-level .ensures) ∙ not-false _ (level .if1 .left)) (c .end .ensures)
 
 pub judged-spec : {M : Type 1} → statement M
@@ -76,6 +97,7 @@ judged-spec =
     returns
     begin-requires
     loop-holds
+    looked-at-requires
     record-at-requires
     next-requires
     add-j

@@ -1,8 +1,8 @@
--- `pass::one` meets its contract: the record is for the root, or lost, or taken at its place.
+-- `pass::one` meets its contract: the record is for the root, or lost, or a rename, or taken at its place.
 -- Assumes nothing.
 use mathlib.Core.Path.{sym, _∙_}
 use borrow.Author.Needs.{needs}
-use Rattle.pass.proofs.Ones.{taken-root, taken-vain, parent-there, on-the-way, due, taken-made}
+use Rattle.pass.proofs.Ones.{taken-root, taken-vain, can-revalue, taken-rename, parent-there, on-the-way, due, taken-made}
 use Rattle.pass.proofs.one.Statement.{statement}
 use Rattle.pass.proofs.one.Tie as tie
 
@@ -29,9 +29,33 @@ returns-2 c =
     let e = sym (c .before .vain .ensures) ∙ c .if2 .taken in
     record { onward = λ l w rs h. taken-vain h (λ z. first .if1 .left (p ∙ z)) e }
 
+revalue-requires : tie.Need-revalue-requires
+revalue-requires c κs =
+    let second = c .before .before .before in
+    let first = second .before .before in
+    let s = first .before .before .before .before .before .before .before .before .before .before .before in
+    let p = first .before .wide .ensures .0 in
+    let e = sym (second .before .vain .ensures) ∙ second .if2 .left in
+    can-revalue (s .pre .underway) (λ z. first .if1 .left (p ∙ z)) e (c .before .if3 .taken) p
+
+same-length-2 : tie.Need-same-length-2
+same-length-2 c = search needs
+
+returns-3 : tie.Need-returns-3
+returns-3 c =
+    let called = c .before .before in
+    let third = called .before .before in
+    let second = third .before .before in
+    let first = second .before .before in
+    let p = first .before .wide .ensures .0 in
+    let e = sym (second .before .vain .ensures) ∙ second .if2 .left in
+    let v = called .revalue .ensures in
+    record { onward = λ l w rs h. taken-rename h (λ z. first .if1 .left (p ∙ z)) e (third .if3 .taken) p (v .1) (v .0) }
+
 parent-of-requires : tie.Need-parent-of-requires
 parent-of-requires c κs =
-    let first = c .before .before in
+    let second = c .before .before in
+    let first = second .before .before in
     let s = first .before .before .before .before .before .before .before .before .before .before .before in
     let p = first .before .wide .ensures .0 in
     parent-there (s .pre .underway) (λ z. first .if1 .left (p ∙ z))
@@ -39,7 +63,7 @@ parent-of-requires c κs =
 upto-requires : tie.Need-upto-requires
 upto-requires c κs =
     let called = c .before .before .before in
-    let second = called .before in
+    let second = called .before .before .before in
     let first = second .before .before in
     let s = first .before .before .before .before .before .before .before .before .before .before .before in
     let p = first .before .wide .ensures .0 in
@@ -50,16 +74,15 @@ take-requires : tie.Need-take-requires
 take-requires c κs =
     let walked = c .before .before .before .before .before .before .before .before .before in
     let called = walked .before .before .before .before in
-    let second = called .before in
+    let third = called .before in
+    let second = third .before .before in
     let first = second .before .before in
     let s = first .before .before .before .before .before .before .before .before .before .before .before in
     let p = first .before .wide .ensures .0 in
     let e = sym (second .before .vain .ensures) ∙ second .if2 .left in
     let m = walked .upto .ensures in
     due (s .pre .underway) (λ z. first .if1 .left (p ∙ z)) e p (called .parent-of .ensures) (m .0) (m .1) (m .2)
-
-same-length-2 : tie.Need-same-length-2
-same-length-2 c = search needs
+    (third .if3 .left)
 
 same-length-3 : tie.Need-same-length-3
 same-length-3 c = search needs
@@ -67,12 +90,15 @@ same-length-3 c = search needs
 same-length-4 : tie.Need-same-length-4
 same-length-4 c = search needs
 
-returns-3 : tie.Need-returns-3
-returns-3 c =
+same-length-5 : tie.Need-same-length-5
+same-length-5 c = search needs
+
+returns-4 : tie.Need-returns-4
+returns-4 c =
     let taken = c .before .before .before .before .before .before in
     let walked = taken .before .before .before .before .before .before .before .before .before .before in
     let called = walked .before .before .before .before in
-    let second = called .before in
+    let second = called .before .before .before in
     let first = second .before .before in
     let p = first .before .wide .ensures .0 in
     let e = sym (second .before .vain .ensures) ∙ second .if2 .left in
@@ -91,10 +117,13 @@ one-spec =
     returns
     vain-requires
     returns-2
+    revalue-requires
+    same-length-2
+    returns-3
     parent-of-requires
     upto-requires
     take-requires
-    same-length-2
     same-length-3
     same-length-4
-    returns-3)
+    same-length-5
+    returns-4)

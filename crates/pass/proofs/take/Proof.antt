@@ -2,7 +2,7 @@
 -- Assumes nothing.
 use mathlib.Core.Path.{refl}
 use borrow.Author.Needs.{needs}
-use Rattle.pass.proofs.Takes.{pastes-at, row-there, can-insert, done-insert, can-rename, done-rename, done-delete, can-replace, done-replace}
+use Rattle.pass.proofs.Takes.{pastes-at, row-there, can-insert, done-insert, done-delete, can-replace, done-replace}
 use Rattle.pass.proofs.take.Statement.{statement}
 use Rattle.pass.proofs.take.Tie as tie
 
@@ -35,14 +35,24 @@ returns c =
     let k = called .paste .ensures in
     done-insert (s .pre) (first .if1 .taken) (first .before .wide .ensures .0) (k .1) (k .0) (c .fresh .ensures)
 
-open-requires : tie.Need-open-requires
-open-requires c κs =
-    let first = c .before .before .before in
-    let s = first .before .before .before .before .before .before .before .before .before .before .before .before in
-    can-rename (s .pre) (first .before .if1 .left) (first .if2 .taken)
+leave-requires : tie.Need-leave-requires
+leave-requires c κs =
+    let s = c .before .before .before .before .before .before .before .before .before .before .before in
+    row-there (s .pre) (c .if1 .left) .0
 
-fresh-requires-2 : tie.Need-fresh-requires-2
-fresh-requires-2 c κs = search needs
+returns-2 : tie.Need-returns-2
+returns-2 c =
+    let first = c .before .before in
+    let s = first .before .before .before .before .before .before .before .before .before .before .before in
+    done-delete (s .pre) (first .if1 .left) (c .if2 .taken) (c .before .leave .ensures)
+
+paste-requires-2 : tie.Need-paste-requires-2
+paste-requires-2 c κs =
+    let third = c .before .before .before in
+    let first = third .before .before in
+    let s = first .before .before .before .before .before .before .before .before .before .before .before in
+    pastes-at (first .before .wide .ensures .0) (third .before .leave .ensures)
+    (can-replace (s .pre) (first .if1 .left) (s .pre .no-rename) (third .if2 .left))
 
 same-length-4 : tie.Need-same-length-4
 same-length-4 c = search needs
@@ -53,51 +63,14 @@ same-length-5 c = search needs
 same-length-6 : tie.Need-same-length-6
 same-length-6 c = search needs
 
-returns-2 : tie.Need-returns-2
-returns-2 c =
-    let called = c .before .before .before .before .before .before .before in
-    let first = called .before .before .before .before in
-    let s = first .before .before .before .before .before .before .before .before .before .before .before .before in
-    let k = called .«open» .ensures in
-    done-rename (s .pre) (first .before .if1 .left) (first .if2 .taken) (k .1) (k .0) (c .fresh2 .ensures)
-
-leave-requires : tie.Need-leave-requires
-leave-requires c κs =
-    let s = c .before .before .before .before .before .before .before .before .before .before .before .before in
-    row-there (s .pre) (c .before .if1 .left) .0
-
 returns-3 : tie.Need-returns-3
 returns-3 c =
-    let first = c .before .before .before in
-    let s = first .before .before .before .before .before .before .before .before .before .before .before in
-    done-delete (s .pre) (first .if1 .left) (c .if3 .taken) (c .before .leave .ensures)
-
-paste-requires-2 : tie.Need-paste-requires-2
-paste-requires-2 c κs =
-    let third = c .before .before .before in
-    let first = third .before .before .before in
-    let s = first .before .before .before .before .before .before .before .before .before .before .before in
-    pastes-at (first .before .wide .ensures .0) (third .before .leave .ensures)
-    (can-replace (s .pre) (first .if1 .left) (third .before .before .if2 .left) (third .if3 .left))
-
-same-length-7 : tie.Need-same-length-7
-same-length-7 c = search needs
-
-same-length-8 : tie.Need-same-length-8
-same-length-8 c = search needs
-
-same-length-9 : tie.Need-same-length-9
-same-length-9 c = search needs
-
-returns-4 : tie.Need-returns-4
-returns-4 c =
     let called = c .before .before .before .before .before .before in
     let third = called .before .before .before .before in
-    let first = third .before .before .before in
+    let first = third .before .before in
     let s = first .before .before .before .before .before .before .before .before .before .before .before in
     let k = called .paste2 .ensures in
-    done-replace (s .pre) (first .if1 .left) (third .before .before .if2 .left) (third .if3 .left) (first
-    .before .wide .ensures .0)
+    done-replace (s .pre) (first .if1 .left) (s .pre .no-rename) (third .if2 .left) (first .before .wide .ensures .0)
     (third .before .leave .ensures) (k .1) (k .0)
 
 pub take-spec : {M : Type 1} → statement M
@@ -111,16 +84,10 @@ take-spec =
     same-length-2
     same-length-3
     returns
-    open-requires
-    fresh-requires-2
+    leave-requires
+    returns-2
+    paste-requires-2
     same-length-4
     same-length-5
     same-length-6
-    returns-2
-    leave-requires
-    returns-3
-    paste-requires-2
-    same-length-7
-    same-length-8
-    same-length-9
-    returns-4)
+    returns-3)

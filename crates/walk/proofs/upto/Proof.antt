@@ -3,20 +3,20 @@
 -- Assumes nothing.
 use borrow.Author.Needs.{needs}
 use Rattle.plan.specs.Table.{table}
-use Rattle.walk.specs.Walk.{Moved, ahead}
-use Rattle.walk.proofs.Chain.{away, arrived, moved-none, moved-trans, ready-on}
+use Rattle.walk.specs.Walk.{Went, ahead}
+use Rattle.walk.proofs.Chain.{away, arrived, went-none, went-trans, readied-on, went-kept}
 use Rattle.walk.proofs.upto.Statement.{statement}
 use Rattle.walk.proofs.upto.Tie as tie
 
 abbrev Inv-loop : tie.InvT-loop
-Inv-loop p q limit dist size value ndist₀ nsize₀ nvalue₀ c₀ ndist nsize nvalue c =
-    Moved (table dist size value) (table ndist₀ nsize₀ nvalue₀) c₀ p q limit (table ndist nsize nvalue) c
+Inv-loop p q dist size value ndist₀ nsize₀ nvalue₀ c₀ ndist nsize nvalue c =
+    Went (table dist size value) (table ndist₀ nsize₀ nvalue₀) c₀ p q (table ndist nsize nvalue) c
 
 abbrev μ-loop : tie.MeasureT-loop
-μ-loop p q limit dist size value ndist₀ nsize₀ nvalue₀ c₀ ndist nsize nvalue c = ahead (table dist size value) c
+μ-loop p q dist size value ndist₀ nsize₀ nvalue₀ c₀ ndist nsize nvalue c = ahead (table dist size value) c
 
 loop-holds : tie.Need-loop-holds Inv-loop μ-loop
-loop-holds c = moved-none (c .before .before .before .before .before .before .pre .stands)
+loop-holds c = went-none
 
 elsewhere-requires : tie.Need-elsewhere-requires Inv-loop μ-loop
 elsewhere-requires c κs = search needs
@@ -25,7 +25,7 @@ step-requires : tie.Need-step-requires Inv-loop μ-loop
 step-requires c κs =
     let tested = c .before .before .before in
     let turn = tested .before .before in (
-      ready-on (turn .before .before .before .before .before .before .before .pre) (turn .loop .inv),
+      readied-on (turn .before .before .before .before .before .before .before .pre) (turn .loop .inv),
       away _ _ _ _ (tested .if1 .taken) (tested
           .before .elsewhere .ensures),
     )
@@ -36,16 +36,22 @@ loop-less c = c .before .before .before .before .before .before .step .ensures .
 loop-again : tie.Need-loop-again Inv-loop μ-loop
 loop-again c =
     let called = c .before .before .before .before .before .before in
-    moved-trans (called .before .before .before .before .before .before .loop .inv) (called .step .ensures .0)
+    went-trans (called .before .before .before .before .before .before .loop .inv) (called .step .ensures .0)
 
 same-length : tie.Need-same-length Inv-loop μ-loop
-same-length c = c .before .before .loop .inv .kept .dist
+same-length c =
+    let turn = c .before .before in
+    went-kept (turn .before .before .before .before .before .before .before .pre) (turn .loop .inv) .dist
 
 same-length-2 : tie.Need-same-length-2 Inv-loop μ-loop
-same-length-2 c = c .before .before .loop .inv .kept .size
+same-length-2 c =
+    let turn = c .before .before in
+    went-kept (turn .before .before .before .before .before .before .before .pre) (turn .loop .inv) .size
 
 same-length-3 : tie.Need-same-length-3 Inv-loop μ-loop
-same-length-3 c = c .before .before .loop .inv .kept .value
+same-length-3 c =
+    let turn = c .before .before in
+    went-kept (turn .before .before .before .before .before .before .before .pre) (turn .loop .inv) .value
 
 returns : tie.Need-returns Inv-loop μ-loop
 returns c =

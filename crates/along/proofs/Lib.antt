@@ -1,11 +1,13 @@
 -- How the mappings along a list are proved.
 --
---   Stages       from one record to the next, whatever the mapping
---   OldRows      one old row, case by case
+--   Laying       numbers laid over a column, piece by piece
+--   Reaching     from record to record, whatever the mapping: where it stands, and what becomes of the rows up to there
+--   OldRows      one old row
 --   NewRows      one new row
 --   OldColumns   every old row
 --   NewColumns   every new row
-pub mod Stages
+pub mod Laying
+pub mod Reaching
 pub mod OldRows
 pub mod NewRows
 pub mod OldColumns

@@ -1,198 +1,199 @@
--- One old row along a list, case by case.
+-- One old row along a list: at each record it stands before it, goes with it, or goes on; what it becomes is its fate
+-- among the origins.
 -- Assumes nothing.
 use Prim.Native.Nat.{ℕ, _+_, _-_, _≤_, _<_}
 use native.Mathlib.Omega.{arith}
-use mathlib.Core.Path.{_≡_, refl, sym, ap, _∙_, subst}
+use mathlib.Core.Path.{_≡_, sym, ap, _∙_, subst}
+use mathlib.Core.Bool.{cond, true, _&&_}
 use mathlib.Core.List.{List, [], _∷_}
+use lib.Dec.{ltb}
 use lib.ListN.{length}
-use borrow.Author.Tests.{lt-ltb}
+use borrow.Author.Tests.{lt-ltb, le-ltb, ltb-true, ltb-false}
+use Rattle.plan.specs.declared.OldPre.{OldPre}
 use Rattle.plan.specs.declared.Record.{Record}
-use Rattle.plan.specs.declared.Verdict.the-variants.{Passed}
-use Rattle.plan.specs.Table.{Table}
+use Rattle.plan.specs.declared.Stand.{Stand}
+use Rattle.plan.specs.declared.Meeting.{Meeting}
+use Rattle.plan.specs.declared.Meeting.the-variants.{Vain, Renamed, Here}
+use Rattle.plan.specs.declared.Became.{Became}
+use Rattle.plan.specs.declared.Became.the-variants.{Row, Gone, Refused as NotBecame}
+use Rattle.plan.specs.declared.Verdict.the-variants.{Passed, Failed}
+use Rattle.plan.specs.Table.{Table, even}
 use Rattle.plan.specs.Paint.{origins}
+use Rattle.plan.specs.Way.{newPre, start}
 use Rattle.plan.specs.Call.{result, judged}
-use Rattle.plan.specs.Lent.{Lent, recordAt, level, list}
-use Rattle.plan.specs.Mapping.{Fate, row, gone, fate, queried}
-use Rattle.plan.proofs.Judged.{accepted-judged}
-use Rattle.judge.specs.declared.Judgement.{Judgement}
-use Rattle.judge.specs.declared.Judgement.the-variants.{Needs, Refused}
-use Rattle.judge.specs.Judgement.{Passing, evens}
-use Rattle.judge.proofs.Passed.{passing}
-use Rattle.mapping.specs.declared.Became.{Became}
-use Rattle.mapping.specs.declared.Became.the-variants.{Row as IsRow, Gone as IsGone, Refused as NotBecame}
-use Rattle.mapping.specs.declared.meet.Stand.{Stand}
-use Rattle.mapping.specs.declared.row.On.{On as Step}
-use Rattle.mapping.specs.declared.row.On.the-variants.{Goes as GoesOn, Row, Gone}
-use Rattle.mapping.specs.Meet.{stand, meeting}
-use Rattle.mapping.specs.Told.{went, became}
-use Rattle.mapping.specs.Follow.{OnMeets, onOf}
-use Rattle.mapping.proofs.Way.{meets}
-use Rattle.mapping.proofs.Follow.{OnTold, on-start, on-turn, on-last, number-few, row-few}
-use Rattle.mapping.proofs.Queried.{passed, on-refused, on-outside}
+use Rattle.plan.specs.Mapping.{Fate, row, gone, fate, queried, went, became}
+use Rattle.plan.proofs.Kit.{cond-elim}
+use Rattle.plan.specs.declared.Judgement.{Judgement}
+use Rattle.plan.specs.declared.Judgement.the-variants.{Needs, Refused}
+use Rattle.judge.proofs.Told.{needs-told, refused-told}
+use Rattle.judge_record.specs.Way.{behind}
+use Rattle.judge_record.proofs.Ways.{Turn, nothing, renames, here, rows-few, way-few}
 use Rattle.along.specs.declared.old_row.OldRow.{OldRow}
 use Rattle.along.specs.declared.old_row.OldRow.the-variants.{Goes, Told}
-use Rattle.along.specs.Onward.{On, Begun, Next, Taken, Last, Finished, rowed, anyTable}
+use Rattle.along.specs.Onward.{Begun, Next, Taken, Last, Finished, rowed, anyTable}
+use Rattle.along.specs.Reached.{Reached, Meetable, met}
 use Rattle.along.specs.OldRow.{Going, Stage, Right}
-use Rattle.along.proofs.Stages.{at-first, in-list, record-is, one-more, at-last}
+use Rattle.along.proofs.Reaching.{passes, reached-start, way, turned, can-meet, reached-more, here-row, here-gone, last-row}
 
 module _ (x : ℕ) where
-  -- the answer of a row that is followed to its end
-  followed : (t i : Table) (c : Lent) → judged (evens t i c) t i (list c) ≡ Passed → x < length (t .size)
-      → (f : Fate) → fate (origins (result t i (list c))) 0 x ≡ f → Right x (went f) tt t i c
+  -- ---- the answers
+  refused-so : (t i : Table) (l : List Record) (n a p k : ℕ) → judged (even t && even i) t i l ≡ Failed a p k
+      → NotBecame a p k ≡ became (queried true t i l n x) (fate (origins (result t i l)) 0 x)
   unfolding queried
-  followed t i c tests b f e = rw (tests, lt-ltb x (length (t .size)) b, e)
+  refused-so t i l n a p k e = rw e
+
+  outside : (t i : Table) (l : List Record) (n : ℕ) → judged (even t && even i) t i l ≡ Passed → n ≤ x
+      → NotBecame 11 x 0 ≡ became (queried true t i l n x) (fate (origins (result t i l)) 0 x)
+  unfolding queried
+  outside t i l n e h = rw (e, le-ltb x n h)
+
+  followed : (t i : Table) (l : List Record) → judged (even t && even i) t i l ≡ Passed → x < length (t .size)
+      → (f : Fate) → fate (origins (result t i l)) 0 x ≡ f → Right x (went f) tt t i l
+  unfolding queried
+  followed t i l tests b f e = rw (tests, lt-ltb x (length (t .size)) b, e)
 
   -- ---- the beginning
   module _ (j : Judgement) (rows : ℕ) where
     pub begun-refused : (a p k : ℕ) → j ≡ Refused a p k → Begun (Stage x) tt (rowed rows) j (Told (NotBecame a p k))
     begun-refused a p k h =
         record {
-          whole = λ t i c known e. at-first (Stage x) tt t i c (Told (NotBecame a p k))
-              (on-refused t i c j e (length (t .size)) x a p k h);
+          whole = λ t i l known e.
+              record { stage = refused-so t i l (length (t .size)) a p k (refused-told _ _ a p k .0 (sym e ∙ h)) };
         }
 
     module _ (n : ℕ) (h : j ≡ Needs n) (y : ℕ) (is : y ≡ x) where
       pub begun-outside : rows ≤ y → Begun (Stage x) tt (rowed rows) j (Told (NotBecame 11 x 0))
-      begun-outside l =
+      begun-outside m =
           record {
-            whole = λ t i c known e. at-first (Stage x) tt t i c (Told (NotBecame 11 x 0))
-                (on-outside t i c j e n h y x (omega arith) is);
+            whole = λ t i l known e.
+                record { stage = outside t i l (length (t .size)) (needs-told _ _ n .0 (sym e ∙ h) .0) (omega arith) };
           }
 
-      pub begun-goes : y < rows → (s : Stand) → s ≡ stand 0 0 0 0 → Begun (Stage x) tt (rowed rows) j (Goes s)
-      begun-goes l s z =
-          record {
-            whole = λ t i c known e. at-first (Stage x) tt t i c (Goes s)
-                (starts t i c (passed t i c j e n h .0) (omega arith) s z);
-          }
-        where
-          starts : (t i : Table) (c : Lent) → judged (evens t i c) t i (list c) ≡ Passed → x < length (t .size)
-              → (s : Stand) → s ≡ stand 0 0 0 0 → Going x t i c s 0
-          starts t i c tests b s z =
-              rw z
-              (record {
-                passed = tests;
-                way = on-start (t .size) (i .size) c
-                    (passing t i c (accepted-judged (evens t i c) t i (list c) tests)) x;
-                below = b;
-              })
-
-  -- ---- the next record
-  module _ (size isize : List ℕ) (w : OldRow) (r : Record) where
-    pub known-stays : (b : Became) → w ≡ Told b → Taken (Stage x) size isize w r w
-    known-stays b e =
-        rw e
-        (record {
-          onward = λ g t i c rs u v o. one-more (Stage x) g t i c (Told b) r rs o (Told b) (o .stage);
-        })
-
-    module _ (s : Stand) (e : w ≡ Goes s) where
-      asked-of : (t i : Table) (c : Lent) (rs : List Record) → On (Stage x) tt t i c (Goes s) (r ∷ rs)
-          → OnMeets (t .size) (i .size) s r x
-      asked-of t i c rs o =
-          let way = o .stage .way in
-          let here = in-list (Stage x) tt t i c (Goes s) r rs o in
-          let p : Passing (t .size) (i .size) c =
-          passing t i c (accepted-judged (evens t i c) t i (list c) (o .stage .passed)) in
-          rw (record-is (Stage x) tt t i c (Goes s) r rs o)
+      pub begun-goes : y < rows → (s : Stand) → s ≡ start → Begun (Stage x) tt (rowed rows) j (Goes s)
+      begun-goes m s z =
+          rw z
           (record {
-            meets = meets (t .size) (i .size) c p s (o .place) (way .way) here;
-            ahead = way .behind;
-            few = row-few (t .size) (i .size) c x p (o .stage .below);
+            whole = λ t i l known e.
+                record {
+                  stage =
+                      record {
+                        reached = reached-start t i l (needs-told _ _ n .0 (sym e ∙ h) .0);
+                        ahead = omega arith;
+                        below = omega arith;
+                      };
+                };
           })
 
-      pub next-asks : Next (Stage x) size isize w r → OnMeets size isize s r x
+  -- the row is not passed, and its new number fits
+  fits : (t i : Table) (l : List Record) (s : Stand) (rs : List Record) → Going x t i l s rs
+      → (s .row .0 ≤ x) × (s .out .0 + (x - s .row .0) < 4294967296)
+  fits t i l s rs h =
+      let p = passes t i l (h .reached .passed) in (
+        h .ahead,
+        omega (
+          arith,
+          h .below,
+          rows-few t (p .table-sound),
+          way-few t i l p s (length (h .reached .done)) rs (way t i l s rs (h .reached)),
+        ),
+      )
+
+  -- ---- one record
+  abbrev step : Stand → Meeting → OldRow
+  step s Vain = Goes s
+  step s (Renamed next) = Goes next
+  step s (Here at n next) =
+      cond (ltb x (at .0)) (Told (Row (newPre (s .out .0 + (x - s .row .0)))))
+      (cond (ltb x (next .row .0)) (Told Gone) (Goes next))
+
+  module _ (t i : Table) (l : List Record) (s : Stand) (r : Record) (rs : List Record)
+      (h : Going x t i l s (r ∷ rs)) where
+    told : {m : Meeting} → Turn t i l (passes t i l (h .reached .passed)) s (length (h .reached .done)) r rs m
+        → Reached t i l (behind s m) rs → Stage x tt t i l (step s m) rs
+    told (nothing v e) k = record { reached = k; ahead = h .ahead; below = h .below }
+    told (renames s′ v a b e) k =
+        record { reached = k; ahead = omega (arith, ap (λ (q : OldPre). q .0) a, h .ahead); below = h .below }
+    told (here s′ at n v a b c e) k =
+        let p = passes t i l (h .reached .passed) in
+        let w = way t i l s (r ∷ rs) (h .reached) in
+        let j : ℕ = length (h .reached .done) in
+        cond-elim (λ (o : OldRow). Stage x tt t i l o rs) (ltb x at) _ _
+        (λ z. followed t i l (h .reached .passed) (h .below) (row (s .out .0 + (x - s .row .0)))
+        (here-row t i l p s s′ j r rs at n w v a b c e x (h .ahead) (ltb-true x at z)))
+        (λ z. cond-elim (λ (o : OldRow). Stage x tt t i l o rs) (ltb x (s′ .row .0)) _ _
+        (λ y. followed t i l (h .reached .passed) (h .below) gone
+        (here-gone t i l p s s′ j r rs at n w v a b c e x (ltb-false x at z) (ltb-true x (s′ .row .0) y)))
+        (λ y. record { reached = k; ahead = ltb-false x (s′ .row .0) y; below = h .below }))
+
+    stepped : Stage x tt t i l (step s (met (t .size) (i .size) s r)) rs
+    stepped = told (turned t i l s r rs (h .reached)) (reached-more t i l s r rs (h .reached))
+
+  module _ (size isize : List ℕ) (w : OldRow) (r : Record) where
+    pub known-stays : (b : Became) → w ≡ Told b → Taken (Stage x) size isize w r w
+    known-stays b e = rw e (record { onward = λ g t i l rs u v o. record { stage = o .stage } })
+
+    module _ (s : Stand) (e : w ≡ Goes s) where
+      pub next-asks : Next (Stage x) size isize w r → Meetable size isize s r
       next-asks n =
           let o : Next (Stage x) size isize (Goes s) r = rw e at n in
-          subst (λ (z : List ℕ). OnMeets size z s r x) (o .run-sizes)
-          (subst (λ (z : List ℕ). OnMeets z (o .insertions .size) s r x) (o .sizes)
-          (asked-of (o .table) (o .insertions) (o .list) (o .rest) (o .on)))
+          can-meet (o .table) (o .insertions) (o .list) s r (o .rest) (o .on .stage .reached) size isize (o .sizes)
+          (o .run-sizes)
 
-      -- what the answer at the record tells
-      module _ (a : Step) (f : a ≡ onOf s x (meeting size isize s r)) where
-        told : (t i : Table) (c : Lent) (rs : List Record) → t .size ≡ size → i .size ≡ isize
-            → (o : On (Stage x) tt t i c (Goes s) (r ∷ rs))
-            → OnTold (t .size) (i .size) c
-            (passing t i c (accepted-judged (evens t i c) t i (list c) (o .stage .passed)))
-            x (o .place + 1) a
-        told t i c rs u v o =
-            let p : Passing (t .size) (i .size) c =
-            passing t i c (accepted-judged (evens t i c) t i (list c) (o .stage .passed)) in
-            let here = in-list (Stage x) tt t i c (Goes s) r rs o in
-            let same : onOf s x (meeting size isize s r)
-            ≡ onOf s x (meeting (t .size) (i .size) s (recordAt c (o .place))) =
-            λ z. onOf s x (meeting ((sym u) z) ((sym v) z) s ((record-is (Stage x) tt t i c (Goes s) r rs o) z)) in
-            subst (OnTold (t .size) (i .size) c p x (o .place + 1)) (sym (f ∙ same))
-            (on-turn (t .size) (i .size) c p x s (o .place) (o .stage .way) here)
+      pub row-fits : Next (Stage x) size isize w r → (s .row .0 ≤ x) × (s .out .0 + (x - s .row .0) < 4294967296)
+      row-fits n =
+          let o : Next (Stage x) size isize (Goes s) r = rw e at n in
+          fits (o .table) (o .insertions) (o .list) s (r ∷ o .rest) (o .on .stage)
 
-        pub next-goes : (goes : Stand) → a ≡ GoesOn goes → Taken (Stage x) size isize w r (Goes goes)
-        next-goes goes h =
+      -- by what the record does
+      module _ (m : Meeting) (f : m ≡ met size isize s r) where
+        next-is : (v : OldRow) → v ≡ step s m → Taken (Stage x) size isize w r v
+        next-is v k =
             rw e
             (record {
-              onward = λ g t i c rs u v o. one-more (Stage x) tt t i c (Goes s) r rs o (Goes goes)
-                  (record { passed = o .stage .passed; way = rw h at (told t i c rs u v o); below = o .stage .below });
+              onward = λ g t i l rs y z o.
+                  record {
+                    stage = subst (λ (q : OldRow). Stage x tt t i l q rs)
+                        (sym (k ∙ (ap (step s) f
+                        ∙ (λ c. step s (met (sym y c) (sym z c) s r)))))
+                        (stepped t i l s r rs (o .stage));
+                  };
             })
 
-        found : (m : ℕ) → a ≡ Row m → (t i : Table) (c : Lent) (rs : List Record) → t .size ≡ size → i .size ≡ isize
-            → (o : On (Stage x) tt t i c (Goes s) (r ∷ rs)) → fate (origins (result t i (list c))) 0 x ≡ row m
-        found m h t i c rs u v o = rw h at (told t i c rs u v o)
+        pub next-vain : m ≡ Vain → Taken (Stage x) size isize w r (Goes s)
+        next-vain k = next-is (Goes s) (sym (ap (step s) k))
 
-        pub row-fits : Next (Stage x) size isize w r → (m : ℕ) → a ≡ Row m → m < 4294967296
-        row-fits n m h =
-            let o : Next (Stage x) size isize (Goes s) r = rw e at n in
-            let t : Table = o .table in
-            let i : Table = o .insertions in
-            let c : Lent = o .list in
-            let a = accepted-judged (evens t i c) t i (list c) (o .on .stage .passed) in
-            number-few (t .size) (i .size) c (passing t i c a) x m (a .few-rows)
-            (found m h t i c (o .rest) (o .sizes) (o .run-sizes) (o .on))
+        pub next-renamed : (goes : Stand) → m ≡ Renamed goes → Taken (Stage x) size isize w r (Goes goes)
+        next-renamed goes k = next-is (Goes goes) (sym (ap (step s) k))
 
-        pub next-row : (m k : ℕ) → a ≡ Row m → k ≡ m → Taken (Stage x) size isize w r (Told (IsRow (record { 0 = k })))
-        next-row m k h z =
-            rw (e, z)
-            (record {
-              onward = λ g t i c rs u v o. one-more (Stage x) tt t i c (Goes s) r rs o (Told (IsRow (record { 0 = m })))
-                  (followed t i c (o .stage .passed) (o .stage .below) (row m) (found m h t i c rs u v o));
-            })
+        module _ (at : OldPre) (n : ℕ) (goes : Stand) (k : m ≡ Here at n goes) where
+          pub next-row : x < at .0
+              → Taken (Stage x) size isize w r (Told (Row (newPre (s .out .0 + (x - s .row .0)))))
+          next-row h = next-is _ (rw (k, lt-ltb x (at .0) h))
 
-        pub next-gone : a ≡ Gone → Taken (Stage x) size isize w r (Told IsGone)
-        next-gone h =
-            rw e
-            (record {
-              onward = λ g t i c rs u v o. one-more (Stage x) tt t i c (Goes s) r rs o (Told IsGone)
-                  (followed t i c (o .stage .passed) (o .stage .below) gone (rw h at (told t i c rs u v o)));
-            })
+          pub next-gone : at .0 ≤ x → x < goes .row .0 → Taken (Stage x) size isize w r (Told Gone)
+          next-gone h y = next-is _ (rw (k, le-ltb x (at .0) h, lt-ltb x (goes .row .0) y))
+
+          pub next-past : at .0 ≤ x → goes .row .0 ≤ x → Taken (Stage x) size isize w r (Goes goes)
+          next-past h y = next-is _ (rw (k, le-ltb x (at .0) h, le-ltb x (goes .row .0) y))
 
   -- ---- the end
   module _ (w : OldRow) where
     pub ends-told : (b : Became) → w ≡ Told b → Finished (Stage x) anyTable w (Right x b)
-    ends-told b e = rw e (record { right = λ g t i c k o. o .stage })
+    ends-told b e = rw e (record { right = λ g t i l k o. o .stage })
 
     module _ (s : Stand) (e : w ≡ Goes s) where
-      number : (t i : Table) (c : Lent) (o : On (Stage x) tt t i c (Goes s) [])
-          → fate (origins (result t i (list c))) 0 x ≡ row (s .out + (x - s .row))
-      number t i c o =
-          on-last (t .size) (i .size) c
-          (passing t i c (accepted-judged (evens t i c) t i (list c) (o .stage .passed))) x s (o .place)
-          (o .stage .way) (at-last (Stage x) tt t i c (Goes s) o) (o .stage .below)
-
-      pub last-fits : Last (Stage x) anyTable w → (s .row ≤ x) × (s .out + (x - s .row) < 4294967296)
+      pub last-fits : Last (Stage x) anyTable w → (s .row .0 ≤ x) × (s .out .0 + (x - s .row .0) < 4294967296)
       last-fits n =
           let o : Last (Stage x) anyTable (Goes s) = rw e at n in
-          let t : Table = o .table in
-          let i : Table = o .insertions in
-          let c : Lent = o .list in
-          let a = accepted-judged (evens t i c) t i (list c) (o .on .stage .passed) in (
-            o .on .stage .way .behind,
-            number-few (t .size) (i .size) c (passing t i c a) x (s .out + (x - s .row)) (a .few-rows)
-                (number t i c (o .on)),
-          )
+          fits (o .table) (o .insertions) (o .list) s [] (o .on .stage)
 
-      pub ends-row : (k : ℕ) → k ≡ s .out + (x - s .row)
-          → Finished (Stage x) anyTable w (Right x (IsRow (record { 0 = k })))
-      ends-row k z =
-          rw (e, z)
+      pub ends-row : Finished (Stage x) anyTable w (Right x (Row (newPre (s .out .0 + (x - s .row .0)))))
+      ends-row =
+          rw e
           (record {
-            right = λ g t i c u o. followed t i c (o .stage .passed) (o .stage .below) (row (s .out + (x - s .row)))
-                (number t i c o);
+            right = λ g t i l u o.
+                let h = o .stage in
+                followed t i l (h .reached .passed) (h .below) (row (s .out .0 + (x - s .row .0)))
+                (last-row t i l (passes t i l (h .reached .passed)) s (length (h .reached .done))
+                (way t i l s [] (h .reached)) x (h .ahead) (h .below));
           })

@@ -1,19 +1,20 @@
 // Every new row: the columns of origins.
-use columns::fill::count_up;
-use columns::fill::put;
-use columns::step::step_new;
-use judge::Judgement;
-use mapping::meet::Stand;
+use crate::fill::count_up;
+use crate::fill::put;
+use crate::way::met;
 use plan::Answer;
+use plan::Judgement;
+use plan::Meeting;
 use plan::Record;
+use plan::Stand;
 ghost use lib.ListN.{length};
-ghost use Rattle.columns.specs.Mapped.{places};
+ghost use Rattle.plan.specs.Mapping.{places};
 ghost use Rattle.along.specs.Onward.{Begun, Next, Taken, Last, Finished, rowed, anyTable};
 ghost use Rattle.along.specs.EveryNew.{Stage, Right};
 
 // The columns under way: the rows go on, and so many records are passed; or the call is refused.
 pub enum Placing {
-    Goes(Stand, usize),
+    Goes(Stand, u32),
     Refused(u32, u32, u64),
 }
 
@@ -37,7 +38,7 @@ pub fn begin(j: Judgement, records: &[u32], rows: &[u32]) -> Placing
     }
 }
 
-// The origins up to the next record.
+// The origins up to the next record, and those of its run.
 pub fn next(
     w: Placing,
     r: Record,
@@ -52,9 +53,23 @@ pub fn next(
         let u′ = places (now (records .exit)) (now (rows .exit)) in
         Taken Stage (now (size .entry)) (now (isize .entry)) (w, u) r (v, u′)) ⌝ }
 {
-    match w {
-        Placing::Refused(_, _, _) => w,
-        Placing::Goes(s, k) => Placing::Goes(step_new(s, k, r, size, isize, records, rows), k + 1),
+    let Placing::Goes(s, k) = w else {
+        return w;
+    };
+    let m = met(s, r, size, isize);
+    match m {
+        Meeting::Vain => Placing::Goes(s, k + 1),
+        Meeting::Renamed(goes) => Placing::Goes(goes, k + 1),
+        Meeting::Here(_, run, goes) => {
+            let start = s.out.0 as usize;
+            let first = (goes.out.0 - run) as usize;
+            let end = goes.out.0 as usize;
+            put(records, start, first, Record::NONE);
+            put(records, first, end, k);
+            count_up(rows, start, first, s.row.0 as usize);
+            count_up(rows, first, end, 0);
+            Placing::Goes(goes, k + 1)
+        }
     }
 }
 
@@ -70,9 +85,11 @@ pub fn end(w: Placing, size: &[u32], records: &mut [u32], rows: &mut [u32]) -> A
     match w {
         Placing::Refused(test, place, count) => Answer::refused(test, place, count),
         Placing::Goes(s, _) => {
-            let end = s.out + (size.len() - s.row);
-            put(records, s.out, end, Record::NONE);
-            count_up(rows, s.out, end, s.row);
+            let row = s.row.0 as usize;
+            let start = s.out.0 as usize;
+            let end = start + (size.len() - row);
+            put(records, start, end, Record::NONE);
+            count_up(rows, start, end, row);
             Answer::accepted(end as u64)
         }
     }

@@ -1,10 +1,13 @@
 // Every old row: the column of new numbers.
-use columns::fill::count_up;
-use columns::step::step_old;
-use judge::Judgement;
-use mapping::meet::Stand;
+use crate::fill::count_up;
+use crate::fill::put;
+use crate::way::met;
 use plan::Answer;
+use plan::Judgement;
+use plan::Meeting;
+use plan::NewPre;
 use plan::Record;
+use plan::Stand;
 ghost use lib.ListN.{length};
 ghost use Rattle.along.specs.Onward.{Begun, Next, Taken, Last, Finished, rowed};
 ghost use Rattle.along.specs.EveryOld.{Stage, Right};
@@ -30,16 +33,26 @@ pub fn begin(j: Judgement, rows: usize, number: &[u32]) -> Numbering
     }
 }
 
-// The numbers up to the next record.
+// The numbers up to the next record, and the mark of those that go with it.
 pub fn next(w: Numbering, r: Record, size: &[u32], isize: &[u32], number: &mut [u32]) -> Numbering
     requires { ⌜ Next Stage (now size) (now isize) (w, now number) r ⌝ }
     ensures { λ v. ⌜ (
         let u = now (number .exit) in
         Taken Stage (now (size .entry)) (now (isize .entry)) (w, now (number .entry)) r (v, u)) ⌝ }
 {
-    match w {
-        Numbering::Refused(_, _, _) => w,
-        Numbering::Goes(s) => Numbering::Goes(step_old(s, r, size, isize, number)),
+    let Numbering::Goes(s) = w else {
+        return w;
+    };
+    let m = met(s, r, size, isize);
+    match m {
+        Meeting::Vain => w,
+        Meeting::Renamed(goes) => Numbering::Goes(goes),
+        Meeting::Here(at, _, goes) => {
+            let here = at.0 as usize;
+            count_up(number, s.row.0 as usize, here, s.out.0 as usize);
+            put(number, here, goes.row.0 as usize, NewPre::GONE);
+            Numbering::Goes(goes)
+        }
     }
 }
 
@@ -53,7 +66,7 @@ pub fn end(w: Numbering, size: &[u32], number: &mut [u32]) -> Answer
     match w {
         Numbering::Refused(test, place, count) => Answer::refused(test, place, count),
         Numbering::Goes(s) => {
-            count_up(number, s.row, size.len(), s.out);
+            count_up(number, s.row.0 as usize, size.len(), s.out.0 as usize);
             Answer::accepted(size.len() as u64)
         }
     }

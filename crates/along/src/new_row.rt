@@ -1,20 +1,18 @@
 // One new row: which row it was.
-use judge::Judgement;
-use mapping::Was;
-use mapping::meet::Stand;
-use mapping::row::Back;
-use mapping::row::follow_back;
-use mapping::row::narrow;
+use crate::way::met;
+use plan::Judgement;
+use plan::Meeting;
 use plan::NewPre;
 use plan::OldPre;
 use plan::Record;
-use plan::wide;
+use plan::Stand;
+use plan::Was;
 ghost use Rattle.along.specs.Onward.{Begun, Next, Taken, Last, Finished, anyTable};
 ghost use Rattle.along.specs.NewRow.{Stage, Right};
 
 // The row under way: it goes on, and so many records are passed; or the answer is known.
 pub enum NewRow {
-    Goes(Stand, usize),
+    Goes(Stand, u32),
     Told(Was),
 }
 
@@ -37,7 +35,7 @@ pub fn begin(j: Judgement, row: NewPre) -> NewRow
     }
 }
 
-// The row at the next record.
+// The row at the next record: it is an old one before it, one of its run, or it goes on.
 pub fn next(w: NewRow, r: Record, size: &[u32], isize: &[u32], row: NewPre) -> NewRow
     requires { ⌜ Next (Stage (row .0)) (now size) (now isize) w r ⌝ }
     ensures { λ v. ⌜ Taken (Stage (row .0)) (now (size .entry)) (now (isize .entry)) w r v ⌝ }
@@ -45,11 +43,20 @@ pub fn next(w: NewRow, r: Record, size: &[u32], isize: &[u32], row: NewPre) -> N
     let NewRow::Goes(s, k) = w else {
         return w;
     };
-    let b = follow_back(s, r, size, isize, wide(row.0));
-    match b {
-        Back::Goes(goes) => NewRow::Goes(goes, k + 1),
-        Back::Old(x) => NewRow::Told(Was::Old(OldPre(narrow(x)))),
-        Back::Run(x) => NewRow::Told(Was::Run(narrow(k), narrow(x))),
+    let m = met(s, r, size, isize);
+    match m {
+        Meeting::Vain => NewRow::Goes(s, k + 1),
+        Meeting::Renamed(goes) => NewRow::Goes(goes, k + 1),
+        Meeting::Here(_, run, goes) => {
+            let first = goes.out.0 - run;
+            if row.0 < first {
+                return NewRow::Told(Was::Old(OldPre(s.row.0 + (row.0 - s.out.0))));
+            }
+            if row.0 < goes.out.0 {
+                return NewRow::Told(Was::Run(k, row.0 - first));
+            }
+            NewRow::Goes(goes, k + 1)
+        }
     }
 }
 
@@ -60,6 +67,6 @@ pub fn end(w: NewRow, row: NewPre) -> Was
 {
     match w {
         NewRow::Told(b) => b,
-        NewRow::Goes(s, _) => Was::Old(OldPre(narrow(s.row + (wide(row.0) - s.out)))),
+        NewRow::Goes(s, _) => Was::Old(OldPre(s.row.0 + (row.0 - s.out.0))),
     }
 }

@@ -1,13 +1,12 @@
 // One old row: which new row it became.
-use judge::Judgement;
-use mapping::Became;
-use mapping::meet::Stand;
-use mapping::row::On;
-use mapping::row::follow_on;
-use mapping::row::narrow;
+use crate::way::met;
+use plan::Became;
+use plan::Judgement;
+use plan::Meeting;
 use plan::NewPre;
 use plan::OldPre;
 use plan::Record;
+use plan::Stand;
 use plan::wide;
 ghost use Rattle.along.specs.Onward.{Begun, Next, Taken, Last, Finished, rowed, anyTable};
 ghost use Rattle.along.specs.OldRow.{Stage, Right};
@@ -35,7 +34,7 @@ pub fn begin(j: Judgement, rows: usize, row: OldPre) -> OldRow
     }
 }
 
-// The row at the next record.
+// The row at the next record: it stands before it, it goes with it, or it goes on.
 pub fn next(w: OldRow, r: Record, size: &[u32], isize: &[u32], row: OldPre) -> OldRow
     requires { ⌜ Next (Stage (row .0)) (now size) (now isize) w r ⌝ }
     ensures { λ v. ⌜ Taken (Stage (row .0)) (now (size .entry)) (now (isize .entry)) w r v ⌝ }
@@ -43,11 +42,19 @@ pub fn next(w: OldRow, r: Record, size: &[u32], isize: &[u32], row: OldPre) -> O
     let OldRow::Goes(s) = w else {
         return w;
     };
-    let o = follow_on(s, r, size, isize, wide(row.0));
-    match o {
-        On::Goes(goes) => OldRow::Goes(goes),
-        On::Row(m) => OldRow::Told(Became::Row(NewPre(narrow(m)))),
-        On::Gone => OldRow::Told(Became::Gone),
+    let m = met(s, r, size, isize);
+    match m {
+        Meeting::Vain => w,
+        Meeting::Renamed(goes) => OldRow::Goes(goes),
+        Meeting::Here(at, _, goes) => {
+            if row.0 < at.0 {
+                return OldRow::Told(Became::Row(NewPre(s.out.0 + (row.0 - s.row.0))));
+            }
+            if row.0 < goes.row.0 {
+                return OldRow::Told(Became::Gone);
+            }
+            OldRow::Goes(goes)
+        }
     }
 }
 
@@ -58,6 +65,6 @@ pub fn end(w: OldRow, row: OldPre) -> Became
 {
     match w {
         OldRow::Told(b) => b,
-        OldRow::Goes(s) => Became::Row(NewPre(narrow(s.out + (wide(row.0) - s.row)))),
+        OldRow::Goes(s) => Became::Row(NewPre(s.out.0 + (row.0 - s.row.0))),
     }
 }

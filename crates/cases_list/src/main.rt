@@ -1,10 +1,10 @@
 // What the judgement of a list answers: the worked plan, each test at the ends of its range, and the limits.
-use judge::Judgement;
 use judge::judged;
 use out::heading;
 use out::text;
 use out::text_number;
 use out::worked;
+use plan::Judgement;
 
 const LAST: u32 = 4294967295;
 

@@ -1,9 +1,7 @@
 // What the mappings of row numbers answer and write: both mappings of every row for lists on the worked plan, row by
 // row and as whole columns; rows that no table has; lent columns that are too short.
-use columns::map_new;
-use columns::map_old;
-use mapping::Became;
-use mapping::Was;
+use mapping::map_new;
+use mapping::map_old;
 use mapping::new_to_old;
 use mapping::old_to_new;
 use out::column;
@@ -12,8 +10,10 @@ use out::text;
 use out::text_number;
 use out::worked;
 use plan::Answer;
+use plan::Became;
 use plan::NewPre;
 use plan::OldPre;
+use plan::Was;
 
 // A refusal.
 fn refused(number: u32, place: u32, count: u64) {

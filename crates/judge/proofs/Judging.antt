@@ -3,48 +3,46 @@
 use Prim.Native.Nat.{ℕ}
 use native.Mathlib.Omega.{arith}
 use mathlib.Core.Path.{_≡_, refl, sym, ap, _∙_}
-use mathlib.Core.Bool.{Bool, true, false, _&&_}
-use mathlib.Core.List.{List}
-use lib.Dec.{eqb, leb}
+use mathlib.Core.Bool.{_&&_}
+use mathlib.Core.List.{List, []}
+use lib.Dec.{leb}
 use lib.ListN.{length}
 use borrow.Author.Tests.{leb-true}
 use Rattle.plan.specs.declared.Record.{Record}
 use Rattle.plan.specs.declared.Before.the-variants.{Nothing}
+use Rattle.plan.specs.declared.Stand.{Stand}
 use Rattle.plan.specs.declared.Verdict.{Verdict}
 use Rattle.plan.specs.declared.Verdict.the-variants.{Passed, Failed}
 use Rattle.plan.specs.Tree.{count}
 use Rattle.plan.specs.Table.{Table, even, sound, mostRows}
 use Rattle.plan.specs.Paint.{old, plan}
+use Rattle.plan.specs.Way.{start}
 use Rattle.plan.specs.Call.{then, test, tested, result, mostRecords, judged}
 use Rattle.plan.proofs.Kit.{T-of}
-use Rattle.plan.proofs.Verdicts.{test-true, then-passed}
-use Rattle.judge.specs.declared.rows.Tally.{Tally}
+use Rattle.plan.proofs.Verdicts.{test-true, passed-told, failed-told, then-passed}
 use Rattle.judge.specs.declared.exam.Exam.the-variants.{Going, Refused}
-use Rattle.judge.specs.Tally.{fresh, tallyAll}
 use Rattle.judge.specs.Judgement.{firstTests}
 use Rattle.judge.specs.Underway.{Begun}
 
--- ---- test 1: what it says of one table
-pub even-told : (t : Table) (m : Bool)
-    → (eqb (length (t .dist)) (length (t .size)) && eqb (length (t .value)) (length (t .size))) ≡ m → even t ≡ m
-unfolding even
-even-told t m h = h
+-- ---- test 1 of two tables, one after the other
+module _ (t i : Table) {v : Verdict} (e : v ≡ test (even t) 1 0 0) where
+  pub first-uneven : {n p c : ℕ} → v ≡ Failed n p c → v ≡ test (even t && even i) 1 0 0
+  first-uneven h = let f = failed-told (even t) 1 0 0 e h in e ∙ rw f
+
+  pub second-even : {w : Verdict} → v ≡ Passed → w ≡ test (even i) 1 0 0 → w ≡ test (even t && even i) 1 0 0
+  second-even h k = k ∙ rw (passed-told (even t) 1 0 0 e h)
 
 -- ---- tests 1 to 3: what failed is handed on
-failed-test : (m : Bool) (a p c b q d : ℕ) → test m a p c ≡ Failed b q d → m ≡ false
-failed-test true a p c b q d e = let z : _≡_ {A = ℕ} 0 1 = cc in absurd (omega arith)
-failed-test false a p c b q d e = refl
-
 module _ (t i : Table) (n : ℕ) (v1 : Verdict) (columns : v1 ≡ test (even t && even i) 1 0 0) where
   pub hand-columns : (b q d : ℕ) → v1 ≡ Failed b q d → v1 ≡ firstTests t i n
   hand-columns b q d e =
-      let m = failed-test (even t && even i) 1 0 0 b q d (sym columns ∙ e) in
+      let m = failed-told (even t && even i) 1 0 0 columns e in
       rw m (rw m at columns)
 
   module _ (p1 : v1 ≡ Passed) (v2 : Verdict) (tree : v2 ≡ test (sound t) 2 0 0) where
     pub hand-table : (b q d : ℕ) → v2 ≡ Failed b q d → v2 ≡ firstTests t i n
     hand-table b q d e =
-        let m = failed-test (sound t) 2 0 0 b q d (sym tree ∙ e) in
+        let m = failed-told (sound t) 2 0 0 tree e in
         rw (test-true (even t && even i) 1 0 0 (sym columns ∙ p1), m) (rw m at tree)
 
     pub hand-length : v2 ≡ Passed → (v3 : Verdict) → v3 ≡ test (leb n mostRecords) 3 0 0 → v3 ≡ firstTests t i n
@@ -78,7 +76,7 @@ module _ (t i : Table) (n : ℕ) (v : Verdict) (e : v ≡ firstTests t i n) wher
   begun-refused a p c w =
       record { whole = λ l m. record { stage = judged-first t i l ∙ rw (m, sym e ∙ w) } }
 
-  pub begun-going : (x : Tally) → v ≡ Passed → x ≡ fresh → Begun t i n (Going Nothing x 0)
+  pub begun-going : (x : Stand) → v ≡ Passed → x ≡ start → Begun t i n (Going Nothing x 0)
   begun-going x w f =
       let a = then-passed (test (even t && even i) 1 0 0) _ (sym e ∙ w) in
       let b = then-passed (test (sound t) 2 0 0) (test (leb n mostRecords) 3 0 0) (a .1) in
@@ -91,13 +89,13 @@ module _ (t i : Table) (n : ℕ) (v : Verdict) (e : v ≡ firstTests t i n) wher
                     columns-even = T-of (even t && even i) (test-true (even t && even i) 1 0 0 (a .0));
                     table-sound = T-of (sound t) (test-true (sound t) 2 0 0 (b .0));
                     few = omega arith;
-                    places = omega arith;
-                    tests = refl;
+                    done = [];
+                    whole = refl;
+                    places = refl;
+                    tests = λ qs. refl;
+                    stood = f;
                     run-tested =
                         record { passed = λ p e. let z : _≡_ {A = ℕ} 0 1 = cc in absurd (omega arith) };
-                    rows = ap (λ (y : Tally). tallyAll (t .size) (i .size) y l) (sym f);
-                    few-came = omega (arith, ap (λ (y : Tally). y .comes) f);
-                    few-went = omega (arith, ap (λ (y : Tally). y .goes) f);
                   };
             };
       }

@@ -8,17 +8,16 @@ use mathlib.Core.Bool.{Bool, true, false, _&&_}
 use mathlib.Core.List.{List, [], _∷_}
 use lib.Dec.{eqb}
 use lib.ListN.{length}
-use borrow.Author.Tests.{eqb-true}
 use Rattle.plan.specs.declared.Record.{Record}
-use Rattle.plan.specs.Table.{Table}
+use Rattle.plan.specs.Table.{Table, table, even}
 use Rattle.plan.specs.Call.{judged}
 use Rattle.plan.specs.Lent.{Lent, level, recordAt, listed, list}
-use Rattle.plan.proofs.Kit.{and-false}
-use Rattle.plan.proofs.Tests.{and-true}
-use Rattle.judge.specs.declared.Judgement.{Judgement}
-use Rattle.judge.specs.declared.Judgement.the-variants.{Refused}
+use Rattle.plan.proofs.Tests.{and-true, even-lengths}
+use Rattle.plan.specs.declared.Judgement.{Judgement}
+use Rattle.plan.specs.declared.Judgement.the-variants.{Refused}
 use Rattle.judge.specs.declared.exam.Exam.{Exam}
-use Rattle.judge.specs.Judgement.{Level, published}
+use Rattle.plan.specs.Call.{published}
+use Rattle.judge.specs.Judgement.{Level}
 use Rattle.judge.specs.declared.exam.Exam.the-variants.{Going, Refused as RefusedSo}
 use Rattle.judge.specs.Underway.{On, wanted, Begun, Next, Taken, Last, Finished}
 
@@ -43,44 +42,31 @@ module _ (l : Lent) where
   listed-length j (suc n) = ap suc (listed-length (suc j) n)
 
 -- ---- its columns
--- two columns are n rows long
-abbrev both : List ℕ → List ℕ → ℕ → Bool
-both a b n = eqb (length a) n && eqb (length b) n
-
-pairs : (w x y z : Bool) → (w && (x && (y && z))) ≡ ((w && x) && (y && z))
-pairs true x y z = refl
-pairs false x y z = refl
-
 module _ (l : Lent) where
-  abbrev n : ℕ
-  n = length (l .kind)
+  abbrev pub places : Table
+  places = table (l .location) (l .kind) (l .parent)
 
-  level-pairs : level l ≡ (both (l .location) (l .parent) n && both (l .from) (l .value) n)
-  unfolding level
+  abbrev pub uses : Table
+  uses = table (l .from) (l .kind) (l .value)
+
+  -- they are equally long where these and those are
+  pub level-pairs : level l ≡ (even places && even uses)
+  unfolding level even
   level-pairs =
+      let n : ℕ = length (l .kind) in
       pairs (eqb (length (l .location)) n) (eqb (length (l .parent)) n) (eqb (length (l .from)) n)
       (eqb (length (l .value)) n)
-
-  pub places-uneven : both (l .location) (l .parent) n ≡ false → level l ≡ false
-  places-uneven h = rw (level-pairs, h)
-
-  pub uses-uneven : both (l .from) (l .value) n ≡ false → level l ≡ false
-  uses-uneven h = rw level-pairs (and-false (both (l .location) (l .parent) n) h)
-
-  pub all-level : both (l .location) (l .parent) n ≡ true → both (l .from) (l .value) n ≡ true → level l ≡ true
-  all-level h k = rw (level-pairs, h, k)
+    where
+      pairs : (w x y z : Bool) → (w && (x && (y && z))) ≡ ((w && x) && (y && z))
+      pairs true x y z = refl
+      pairs false x y z = refl
 
   pub levels : level l ≡ true → Level l
   levels h =
-      let w = and-true (both (l .location) (l .parent) n) (both (l .from) (l .value) n) (sym level-pairs ∙ h) in
-      let p = and-true (eqb (length (l .location)) n) (eqb (length (l .parent)) n) (w .0) in
-      let u = and-true (eqb (length (l .from)) n) (eqb (length (l .value)) n) (w .1) in
-      record {
-        locations = eqb-true _ _ (p .0);
-        parents = eqb-true _ _ (p .1);
-        froms = eqb-true _ _ (u .0);
-        values = eqb-true _ _ (u .1);
-      }
+      let w = and-true (even places) (even uses) (sym level-pairs ∙ h) in
+      let p = even-lengths places (w .0) in
+      let u = even-lengths uses (w .1) in
+      record { locations = p .0; parents = p .1; froms = u .0; values = u .1 }
 
 -- ---- the exam of it
 -- test 1 fails

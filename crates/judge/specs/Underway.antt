@@ -1,43 +1,45 @@
 -- How the exam of a list goes on from record to record.
 -- Assumes nothing.
-use Prim.Native.Nat.{ℕ, _+_, _*_, _≤_}
+use Prim.Native.Nat.{ℕ, _≤_}
 use mathlib.Core.Path.{_≡_}
 use mathlib.Core.Bool.{_&&_}
-use mathlib.Core.List.{List, [], _∷_}
+use mathlib.Core.List.{List, [], _∷_, _++_}
 use lib.Dec.{T}
 use lib.ListN.{length}
 use Rattle.plan.specs.declared.Record.{Record}
 use Rattle.plan.specs.declared.Before.{Before}
 use Rattle.plan.specs.declared.Before.the-variants.{Nothing}
+use Rattle.plan.specs.declared.Stand.{Stand}
 use Rattle.plan.specs.declared.Verdict.the-variants.{Failed}
 use Rattle.plan.specs.Table.{Table, table, even, sound}
 use Rattle.plan.specs.Paint.{old, plan}
+use Rattle.plan.specs.Way.{start}
 use Rattle.plan.specs.Call.{tested, mostRecords, judged}
-use Rattle.trials.specs.Trial.{RunTested}
-use Rattle.judge.specs.declared.Judgement.{Judgement}
-use Rattle.judge.specs.declared.rows.Tally.{Tally}
+use Rattle.judge_record.specs.Trial.{RunTested}
+use Rattle.judge_record.specs.Way.{stands}
+use Rattle.plan.specs.declared.Judgement.{Judgement}
 use Rattle.judge.specs.declared.exam.Exam.{Exam}
 use Rattle.judge.specs.declared.exam.Exam.the-variants.{Going, Refused}
-use Rattle.judge.specs.Tally.{tallyAll, fresh}
-use Rattle.judge.specs.Judgement.{publishedOf}
+use Rattle.plan.specs.Call.{publishedOf}
 
--- the exam goes on: tests 1 to 3 passed, the tests of the whole list are those of the records rs that are left, behind
--- the record before, and so is the tally. Each record passed counted less than 2³² rows
-pub record Along (t i : Table) (l : List Record) (before : Before) (tally : Tally) (passed : ℕ) (rs : List Record)
+-- the exam goes on: tests 1 to 3 passed, and so did the records up to here; the rows go on where these leave them, and
+-- what is left of the tests is what the records behind say
+pub record Along (t i : Table) (l : List Record) (before : Before) (s : Stand) (passed : ℕ) (rs : List Record)
     : Type 0 where
   pub columns-even : T (even t && even i)
   pub table-sound : T (sound t)
   pub few : length l ≤ mostRecords
-  pub places : passed + length rs ≡ length l
-  pub tests : tested (plan old t) i 0 Nothing l ≡ tested (plan old t) i passed before rs
+  pub done : List Record
+  pub whole : l ≡ done ++ rs
+  pub places : length done ≡ passed
+  pub tests : (qs : List Record)
+      → tested (plan old t) i 0 Nothing (done ++ qs) ≡ tested (plan old t) i passed before qs
+  pub stood : s ≡ stands (t .size) (i .size) start done
   pub run-tested : RunTested i before
-  pub rows : tallyAll (t .size) (i .size) fresh l ≡ tallyAll (t .size) (i .size) tally rs
-  pub few-came : tally .comes ≤ 4294967296 * passed
-  pub few-went : tally .goes ≤ 4294967296 * passed
 
 -- what holds of an exam that goes on, and of one that is refused
 abbrev pub Stage : Table → Table → List Record → Exam → List Record → Type 0
-Stage t i l (Going before tally passed) rs = Along t i l before tally passed rs
+Stage t i l (Going before s passed) rs = Along t i l before s passed rs
 Stage t i l (Refused number place count) rs = judged (even t && even i) t i l ≡ Failed number place count
 
 -- the exam of the list l, on the table t with the insertions i, has come to e, and the records rs are left
@@ -46,7 +48,7 @@ pub record On (t i : Table) (l : List Record) (e : Exam) (rs : List Record) : Ty
 
 -- how many of n records are looked at: of a refused exam no more
 abbrev pub wanted : Exam → (n : ℕ) → ℕ
-wanted (Going before tally passed) n = n
+wanted (Going before s passed) n = n
 wanted (Refused number place count) n = 0
 
 -- every list of so many records is at its beginning

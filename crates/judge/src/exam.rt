@@ -1,27 +1,31 @@
 // The exam of a list: tests 1 to 3 before its first record, tests 4 to 8 of one record after another, test 9 behind the
 // last. Whoever has the records hands them over one at a time. Nothing is written, and no array is kept.
-use crate::Judgement;
-use crate::long;
-use crate::rows::Tally;
-use crate::rows::counted;
+use judge_record::Trial;
+use judge_record::place::place_of;
+use judge_record::tried;
+use judge_record::way::onward;
+use judge_record::way::run_rows;
 use plan::Answer;
 use plan::Before;
+use plan::Judgement;
 use plan::Record;
+use plan::Stand;
 use plan::Verdict;
-use table::sound;
-use trials::Trial;
-use trials::tried;
+use plan::wide;
+use table::sound::test_sound;
+use table::test_even;
 ghost use mathlib.Core.Path.{_≡_};
 ghost use mathlib.Core.Bool.{_&&_};
 ghost use lib.Dec.{leb};
-ghost use Rattle.plan.specs.Table.{table, even, sound as soundly, mostRows};
+ghost use Rattle.plan.specs.Table.{table, even, mostRows};
 ghost use Rattle.plan.specs.Call.{test, mostRecords};
-ghost use Rattle.judge.specs.Judgement.{firstTests, judgement};
+ghost use Rattle.plan.specs.Call.{judgement};
+ghost use Rattle.judge.specs.Judgement.{firstTests};
 ghost use Rattle.judge.specs.Underway.{wanted, Begun, Next, Taken, Last, Finished};
 
-// An exam of a list under way: the record before, what is counted so far, how many records passed; or the refusal.
+// An exam of a list under way: the record before, where the rows go on, how many records passed; or the refusal.
 pub enum Exam {
-    Going(Before, Tally, usize),
+    Going(Before, Stand, usize),
     Refused(u32, u32, u64),
 }
 
@@ -39,25 +43,11 @@ fn test_columns(
         let i = table (now (idist .entry)) (now (isize .entry)) (now (ivalue .entry)) in
         ⌜ v ≡ test (even t && even i) 1 0 0 ⌝ }
 {
-    if !long(dist, value, size.len()) {
-        return Verdict::Failed(1, 0, 0);
-    }
-    if !long(idist, ivalue, isize.len()) {
-        return Verdict::Failed(1, 0, 0);
-    }
-    Verdict::Passed
-}
-
-// Test 2: the table is sound.
-fn test_table(dist: &[u32], size: &[u32], value: &[u32]) -> Verdict
-    ensures { λ v.
-        let t = table (now (dist .entry)) (now (size .entry)) (now (value .entry)) in
-        ⌜ v ≡ test (soundly t) 2 0 0 ⌝ }
-{
-    if !sound::is_sound(dist, size, value) {
-        return Verdict::Failed(2, 0, 0);
-    }
-    Verdict::Passed
+    let rows = test_even(dist, size, value);
+    let Verdict::Passed = rows else {
+        return rows;
+    };
+    test_even(idist, isize, ivalue)
 }
 
 // Test 3: the list has at most 1,024 records.
@@ -89,7 +79,7 @@ fn first_tests(
     let Verdict::Passed = columns else {
         return columns;
     };
-    let tree = test_table(dist, size, value);
+    let tree = test_sound(dist, size, value);
     let Verdict::Passed = tree else {
         return tree;
     };
@@ -124,7 +114,7 @@ pub fn begin(
     let v = first_tests(records, dist, size, value, idist, isize, ivalue);
     match v {
         Verdict::Failed(number, place, count) => Exam::Refused(number, place, count),
-        Verdict::Passed => Exam::Going(Before::Nothing, Tally::fresh(), 0),
+        Verdict::Passed => Exam::Going(Before::Nothing, Stand::start(), 0),
     }
 }
 
@@ -138,7 +128,7 @@ pub fn looked_at(e: Exam, n: usize) -> usize
     }
 }
 
-// Tests 4 to 8 of the next record, and its count. A refused exam stays refused.
+// Tests 4 to 8 of the next record, and where it leaves the rows. A refused exam stays refused.
 pub fn next(
     e: Exam,
     r: Record,
@@ -152,23 +142,27 @@ pub fn next(
     ensures { λ f. let i = table (now (idist .entry)) (now (isize .entry)) (now (ivalue .entry)) in
         ⌜ Taken (now (dist .entry)) (now (size .entry)) i e r f ⌝ }
 {
-    let Exam::Going(before, tally, passed) = e else {
+    let Exam::Going(before, stand, passed) = e else {
         return e;
     };
-    let t = tried(dist, size, idist, isize, ivalue, before, r);
+    let place = place_of(dist, size, r);
+    let t = tried(place, idist, isize, ivalue, before, r);
     match t {
         Trial::Failed(number) => Exam::Refused(number, passed as u32, 0),
-        Trial::Passed => Exam::Going(Before::After(r), counted(tally, r, size, isize), passed + 1),
+        Trial::Passed => {
+            let next = onward(stand, r, place.end, run_rows(isize, r));
+            Exam::Going(Before::After(r), next, passed + 1)
+        }
     }
 }
 
-// Test 9, and the rows needed: the table's and those that come, less those that go.
+// Test 9, and the rows needed: those up to here, and the old rows that are left.
 pub fn end(e: Exam, size: &[u32]) -> Judgement
     requires { ⌜ Last (now size) e ⌝ }
     ensures { λ a. ⌜ Finished (now (size .entry)) e a ⌝ }
 {
     match e {
         Exam::Refused(number, place, count) => Judgement::Refused(number, place, count),
-        Exam::Going(_, tally, _) => test_rows(size.len() + tally.comes - tally.goes),
+        Exam::Going(_, s, _) => test_rows(wide(s.out.0) + (size.len() - wide(s.row.0))),
     }
 }

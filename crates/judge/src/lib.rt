@@ -4,37 +4,38 @@ use crate::exam::begin;
 use crate::exam::end;
 use crate::exam::looked_at;
 use crate::exam::next;
-use crate::list::is_level;
 use crate::list::record_at;
+use crate::list::test_level;
+use plan::Judgement;
+use plan::Verdict;
 ghost use mathlib.Core.Path.{_≡_};
-ghost use mathlib.Core.Bool.{_&&_};
-ghost use lib.Dec.{eqb};
-ghost use lib.ListN.{length};
+ghost use lib.Dec.{leb, ltb};
 ghost use Rattle.plan.specs.Table.{table};
+ghost use Rattle.plan.specs.Call.{test};
 ghost use Rattle.plan.specs.Lent.{lent};
-ghost use Rattle.judge.specs.Judgement.{published};
+ghost use Rattle.plan.specs.Call.{published};
 
 pub mod exam;
 pub mod list;
-pub mod rows;
 
-// What the judgement says: so many rows are needed, or the number of the test that failed, the place and a count.
-pub enum Judgement {
-    Needs(u64),
-    Refused(u32, u32, u64),
+// Test 10: the lent columns have room for n rows.
+pub fn test_room(n: u64, room: usize) -> Verdict
+    ensures { λ v. ⌜ v ≡ test (leb n room) 10 0 n ⌝ }
+{
+    if n > room as u64 {
+        return Verdict::Failed(10, 0, n);
+    }
+    Verdict::Passed
 }
 
-// Are these two columns n rows long?
-pub fn long(a: &[u32], b: &[u32], n: usize) -> bool
-    ensures { λ r. ⌜ r ≡ (eqb (length (now (a .entry))) n && eqb (length (now (b .entry))) n) ⌝ }
+// Test 11: the row is one of n rows.
+pub fn test_row(row: u32, n: u64) -> Verdict
+    ensures { λ v. ⌜ v ≡ test (ltb row n) 11 row 0 ⌝ }
 {
-    if a.len() != n {
-        return false;
+    if row as u64 >= n {
+        return Verdict::Failed(11, row, 0);
     }
-    if b.len() != n {
-        return false;
-    }
-    true
+    Verdict::Passed
 }
 
 // The whole judgement: tests 1 to 9, and the rows needed.
@@ -58,9 +59,9 @@ pub fn judged(
         (now (from .entry)) (now (values .entry)) in
         ⌜ a ≡ published t i l ⌝ }
 {
-    if !is_level(kind, location, parent, from, values) {
+    let Verdict::Passed = test_level(kind, location, parent, from, values) else {
         return Judgement::Refused(1, 0, 0);
-    }
+    };
     let mut e = begin(kind.len(), dist, size, value, idist, isize, ivalue);
     let mut j = 0;
     while j < looked_at(e, kind.len()) {

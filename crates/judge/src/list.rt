@@ -1,32 +1,32 @@
 // A list that is lent as five columns.
-use crate::long;
 use plan::Record;
+use plan::Verdict;
+use table::test_even;
 ghost use mathlib.Core.Path.{_≡_};
 ghost use Prim.Native.Nat.{_<_};
 ghost use lib.ListN.{length};
+ghost use Rattle.plan.specs.Call.{test};
 ghost use Rattle.plan.specs.Lent.{lent, level, recordAt};
 ghost use Rattle.judge.specs.Judgement.{Level};
 
-// Test 1 of the list's own columns: are they equally long?
-pub fn is_level(
+// Test 1 of the list's own columns: they are equally long.
+pub fn test_level(
     kind: &[u32],
     location: &[u32],
     parent: &[u32],
     from: &[u32],
     values: &[u32],
-) -> bool
-    ensures { λ b.
+) -> Verdict
+    ensures { λ v.
         let l = lent (now (kind .entry)) (now (location .entry)) (now (parent .entry))
         (now (from .entry)) (now (values .entry)) in
-        ⌜ b ≡ level l ⌝ }
+        ⌜ v ≡ test (level l) 1 0 0 ⌝ }
 {
-    if !long(location, parent, kind.len()) {
-        return false;
-    }
-    if !long(from, values, kind.len()) {
-        return false;
-    }
-    true
+    let places = test_even(location, kind, parent);
+    let Verdict::Passed = places else {
+        return places;
+    };
+    test_even(from, kind, values)
 }
 
 // Record j of the list.

@@ -1,12 +1,5 @@
--- How the mappings are proved.
---
---   Meets     one record met: the rows before it, its run, the rows behind
---   Way       the way along the list: the origins still to come
---   Steps     a step of the way
---   Follow    one row followed, on or back
---   Queried   the tests of the mappings, and their answers
-pub mod Meets
-pub mod Way
-pub mod Steps
-pub mod Follow
-pub mod Queried
+-- How the calls are proved: the loop over a list lent as columns (`Driving`), and what they answer (`Answers`). What
+-- they tell row by row, and that their contracts determine the outcome (`EveryRow`).
+pub mod Driving
+pub mod Answers
+pub mod EveryRow

@@ -10,27 +10,28 @@ use borrow.Author.Tests.{eq-eqb, ne-eqb, eqb-true, eqb-false}
 use Rattle.plan.specs.declared.Record.{Record}
 use Rattle.plan.specs.declared.Before.the-variants.{Nothing}
 use Rattle.plan.specs.Table.{Table}
-use Rattle.plan.specs.Change.{Change}
+use Rattle.plan.specs.Change.{Change, skip}
 use Rattle.plan.specs.Paint.{old, plan}
-use Rattle.plan.specs.Records.{known, located}
-use Rattle.plan.proofs.Kit.{All, cond-elim}
-use Rattle.plan.proofs.Tested.{PassAll}
-use Rattle.plan.proofs.Pass.{skip}
-use Rattle.plan.proofs.Stretch.{table-eq, oneRow}
-use Rattle.plan.proofs.Machine.{State, state, valueAt, begun}
-use Rattle.plan.proofs.MachineTable.{start, tall-tree, old-kids-of}
-use Rattle.plan.proofs.Line.{base}
-use Rattle.plan.proofs.Values.{valued, values, valued-delete, valued-insert, valued-rename, valued-replace}
+use Rattle.plan.specs.Records.{known, located, All, PassAll}
+use Rattle.plan.specs.Way.{stand}
+use Rattle.plan.proofs.Kit.{cond-elim}
+use Rattle.pass_moves.proofs.Rows.{table-eq, tall-tree}
+use Rattle.pass_moves.specs.Rows.{oneRow}
+use Rattle.pass_way.specs.Machine.{State, state, valueAt, begun}
+use Rattle.pass_way.proofs.MachineTable.{start, old-kids-of}
+use Rattle.pass_way.specs.Line.{base}
+use Rattle.pass.specs.Values.{valued, values}
+use Rattle.pass.proofs.Values.{valued-delete, valued-insert, valued-rename, valued-replace}
 use Rattle.plan.proofs.FourKinds.{by-kind}
-use Rattle.plan.proofs.RecordFacts.{row-named, insert-named, behind-root}
-use Rattle.moves.specs.declared.Cursor.{Cursor}
-use Rattle.moves.specs.Written.{cursor, rowed}
-use Rattle.walk.specs.Walk.{stateOf}
+use Rattle.pass.proofs.RecordFacts.{row-named, insert-named, behind-root}
+use Rattle.pass_moves.specs.declared.Cursor.{Cursor}
+use Rattle.pass_moves.specs.Written.{cursor, rowed}
+use Rattle.pass_way.specs.Walk.{stateOf}
 use Rattle.pass.specs.Asked.{Given}
 use Rattle.pass.specs.Underway.{onward, behindFirst, Underway}
-use Rattle.walk.proofs.Grown.{Grown, grown-state, grown-kept, grown-room, rowed-grown}
-use Rattle.walk.proofs.Chain.{reach-eq}
-use Rattle.pass.proofs.Takes.{skip-none}
+use Rattle.pass_way.proofs.Grown.{Grown, grown-state, grown-kept, grown-room, rowed-grown}
+use Rattle.pass_way.proofs.Chain.{reach-eq}
+use Rattle.pass.proofs.Vain.{skip-none}
 use Rattle.pass.proofs.Given.{tree-of, reaches, root-room}
 
 module _ {t i : Table} {l : List Record} {w : Table} (A : Given t i l w) where
@@ -39,7 +40,7 @@ module _ {t i : Table} {l : List Record} {w : Table} (A : Given t i l w) where
   a = valueAt t 0
 
   abbrev first : Cursor
-  first = cursor 1 1 0 0 0 0
+  first = cursor (stand 1 1 0 0) 0 0 0
 
   abbrev rooted : Table
   rooted = rowed w 0 1 0 a
@@ -80,7 +81,7 @@ module _ {t i : Table} {l : List Record} {w : Table} (A : Given t i l w) where
 
   -- ---- the machine starts where the pass begins
   starts : (rs : List Record) → PassAll (plan old t) i Nothing rs
-      → onward i (rowed w 0 1 0 (valueAt t 0)) (cursor 1 1 0 0 0 0) rs ≡ start (tree-of A .root) (values i rs)
+      → onward i (rowed w 0 1 0 (valueAt t 0)) (cursor (stand 1 1 0 0) 0 0 0) rs ≡ start (tree-of A .root) (values i rs)
   unfolding skip
   starts [] h = root-state a [] ∙ ap (λ (v : ℕ). begun v []) root-value
   starts (r ∷ rs) h =
@@ -99,7 +100,7 @@ module _ {t i : Table} {l : List Record} {w : Table} (A : Given t i l w) where
   past-root [] h = tt
   past-root (r ∷ rs) h = behind-root (plan old t) i Nothing r rs h
 
-  pub underway-begun : Underway t i l w (rowed w 0 1 0 (valueAt t 0)) (cursor 1 1 0 0 0 0) l
+  pub underway-begun : Underway t i l w (rowed w 0 1 0 (valueAt t 0)) (cursor (stand 1 1 0 0) 0 0 0) l
   underway-begun =
       record {
         given = A;

@@ -1,6 +1,6 @@
 -- What is given, and the way of the machine on it: from the open root to the columns of the result, where it stops.
 -- Assumes nothing.
-use Prim.Native.Nat.{ℕ, _≤_}
+use Prim.Native.Nat.{ℕ, _+_, _≤_, _<_}
 use native.Mathlib.Omega.{arith}
 use mathlib.Core.Path.{_≡_, refl, sym, ap, _∙_, subst}
 use mathlib.Core.List.{List}
@@ -9,26 +9,29 @@ use lib.ListN.{length, getD}
 use Rattle.plan.specs.declared.Record.{Record}
 use Rattle.plan.specs.declared.Before.the-variants.{Nothing}
 use Rattle.plan.specs.Tree.{Forest, none, tree, count, relabel}
-use Rattle.plan.specs.Table.{Table, even}
+use Rattle.plan.specs.Table.{Table, even, TreeOf}
 use Rattle.plan.specs.Change.{Change, meaning}
 use Rattle.plan.specs.Paint.{old, plan, bare}
 use Rattle.plan.specs.Call.{result}
+use Rattle.plan.specs.Open.{sizeAt}
 use Rattle.plan.proofs.Kit.{T-and}
 use Rattle.plan.proofs.Columns.{count-relabel}
-use Rattle.plan.proofs.Sound.{TreeOf, sound-tree}
+use Rattle.plan.proofs.Rows.{below-fits, size-at}
+use Rattle.plan.proofs.Sound.{sound-tree}
 use Rattle.plan.proofs.Cut.{Fit}
-use Rattle.plan.proofs.Stretch.{Room}
-use Rattle.plan.proofs.Machine.{valueAt, step, Reach, done}
-use Rattle.plan.proofs.Revalued.{valuing}
-use Rattle.plan.proofs.ValuesAhead.{step-same}
-use Rattle.plan.proofs.MachineTable.{rooted, start, tall-tree, root-stays, machine-reaches, machine-stops}
-use Rattle.plan.proofs.Values.{values, plan-plain, plain-tree, result-plain, values-fit}
-use Rattle.plan.proofs.RecordFacts.{values-rooted}
-use Rattle.moves.specs.declared.Cursor.{Cursor}
-use Rattle.walk.specs.Walk.{stateOf, Ends, Kept}
+use Rattle.pass_moves.specs.Rows.{Room}
+use Rattle.pass_way.specs.Machine.{valueAt, step, Reach, done}
+use Rattle.pass_way.specs.Walk.{valuing, stateOf, Ends, Kept}
+use Rattle.pass.proofs.ValuesAhead.{step-same}
+use Rattle.pass_way.proofs.MachineTable.{rooted, start, root-stays, machine-reaches, machine-stops}
+use Rattle.pass_moves.proofs.Rows.{tall-tree}
+use Rattle.pass.specs.Values.{values}
+use Rattle.pass.proofs.Values.{plan-plain, plain-tree, result-plain, values-fit}
+use Rattle.pass.proofs.RecordFacts.{values-rooted}
+use Rattle.pass_moves.specs.declared.Cursor.{Cursor}
 use Rattle.pass.specs.Asked.{Given}
 use Rattle.pass.specs.Underway.{goal}
-use Rattle.walk.proofs.Chain.{room-kept}
+use Rattle.pass_way.proofs.Chain.{room-kept}
 
 even-room : (w : Table) (n : ℕ) → T (even w) → n ≤ length (w .size) → Room n w
 unfolding even
@@ -43,6 +46,14 @@ pub count-plan : {t : Table} → TreeOf t → count (plan old t) ≡ length (t .
 count-plan {t} h =
     sym (count-relabel bare (plan old t))
     ∙ (ap count (plan-plain old t ∙ plain-tree h) ∙ omega (arith, tall-tree h .size))
+
+-- a row's subtree ends within the table
+pub row-ends : {t : Table} (h : TreeOf t) (r : ℕ) → r < length (t .size) → r + sizeAt t r ≤ length (t .size)
+row-ends {t} h r l =
+    let f : Forest ℕ = tree (h .root) (h .kids) none in
+    let e = tall-tree h .size in
+    let s = ap (λ (v : Table). sizeAt v r) (h .is-table) ∙ size-at f r (omega arith) in
+    omega (arith, below-fits f r (omega arith))
 
 module _ {t i : Table} {l : List Record} {w : Table} (A : Given t i l w) where
   pub tree-of : TreeOf t

@@ -4,71 +4,72 @@ use Prim.Native.Nat.{ℕ, suc, _+_, _-_, _≤_, _<_}
 use native.Mathlib.Omega.{arith}
 use native.Mathlib.Nat.{add-zero}
 use mathlib.Core.Path.{_≡_, refl, sym, ap, _∙_, subst}
-use mathlib.Core.Bool.{false, _&&_}
-use mathlib.Core.List.{List, [], _∷_}
-use lib.Dec.{ltb, leb, ltb→lt, leb→le}
+use mathlib.Core.Bool.{Bool, true, false, cond}
+use mathlib.Core.List.{List, _∷_}
+use lib.Dec.{T}
 use lib.ListN.{length}
 use borrow.Author.Tests.{eq-eqb, ne-eqb}
 use Rattle.plan.specs.declared.Record.{Record}
+use Rattle.plan.specs.declared.Stand.{Stand}
 use Rattle.plan.specs.Tree.{Forest, none, tree, count}
-use Rattle.plan.specs.Table.{Table, run}
-use Rattle.plan.specs.Change.{Act, delete, replace, Change, insert, act, lost}
-use Rattle.plan.specs.Records.{isInsert, isReplace}
+use Rattle.plan.specs.Table.{Table, run, TreeOf}
+use Rattle.plan.specs.Change.{Act, delete, replace, Change, insert, act, skip}
+use Rattle.plan.specs.Records.{isInsert, isReplace, known, runs}
+use Rattle.plan.specs.Way.{hasRun, removesRows, brought, takenFrom, goesOn, stand}
 use Rattle.plan.specs.Open.{distAt, sizeAt}
-use Rattle.plan.proofs.Kit.{T-and, false-of, or-left, or-right, eq→eqb}
+use Rattle.plan.proofs.Kit.{or-left, or-right, eq→eqb}
 use Rattle.plan.proofs.Readback.{read-back}
-use Rattle.plan.proofs.Pass.{skip}
-use Rattle.plan.proofs.Stretch.{rows, firstRows, laterRows, Room, room-less, none-behind}
-use Rattle.plan.proofs.Machine.{State, state-eq, pasted, changed, step, Reach, stop, step-to}
-use Rattle.plan.proofs.MachineTable.{tall-tree}
-use Rattle.plan.proofs.Line.{Child, line-next, line-same, line-at, line-child, not-end}
-use Rattle.plan.proofs.Values.{plain, valued, valued-delete, valued-insert, valued-replace}
+use Rattle.pass_moves.specs.Rows.{rows, firstRows, laterRows, Room}
+use Rattle.pass_moves.proofs.Rows.{room-less, none-behind}
+use Rattle.pass_way.specs.Machine.{State, pasted, changed, step, Reach, stop}
+use Rattle.pass_way.proofs.Machine.{state-eq, step-to}
+use Rattle.pass_way.proofs.Line.{Child, line-next, line-same, line-at, line-child, not-end}
+use Rattle.pass.specs.Values.{plain, valued}
+use Rattle.pass.proofs.Values.{valued-delete, valued-insert, valued-replace}
 use Rattle.plan.proofs.FourKinds.{by-kind}
-use Rattle.plan.proofs.RecordFacts.{RunOf, run-of}
-use Rattle.moves.specs.declared.Cursor.{Cursor}
-use Rattle.moves.specs.Written.{cursor, laid, Pastes}
-use Rattle.walk.specs.Walk.{stateOf, Ends}
-use Rattle.pass.specs.Taking.{Due, Done}
-use Rattle.walk.proofs.Grown.{Grown, grown-state, grown-kept, grown-room, grown-below, laid-grown}
-use Rattle.walk.proofs.Chain.{reach-eq, kept-none}
-use Rattle.walk.proofs.Steps.{plainly, as-state, Fits, fits}
+use Rattle.pass.proofs.RecordFacts.{RunOf, run-of}
+use Rattle.pass_moves.specs.declared.Cursor.{Cursor}
+use Rattle.pass_moves.specs.Written.{row, out, cursor, laid, Pastes}
+use Rattle.pass_way.specs.Walk.{stateOf, Stands, Ends, Kept}
+use Rattle.pass.specs.Taking.{Under, Brings, withRun}
+use Rattle.pass.specs.Underway.{toCome}
+use Rattle.pass_way.proofs.Grown.{Grown, grown-state, grown-kept, grown-room, grown-below, laid-grown}
+use Rattle.pass_way.proofs.Chain.{reach-eq, kept-none}
+use Rattle.pass.proofs.Vain.{skip-none}
+use Rattle.pass_way.proofs.Steps.{plainly, as-state, Fits, fits}
 
--- nothing is lost with no rows
-pub none-lost : (c : Change ℕ) → lost 0 0 c ≡ false
-none-lost (insert p q s) =
-    false-of (leb 0 q && ltb q 0) (λ h. omega (arith, ltb→lt q 0 (T-and (leb 0 q) (ltb q 0) h .1)))
-none-lost (act p x) =
-    false-of (ltb 0 p && ltb p 0) (λ h. omega (arith, ltb→lt p 0 (T-and (ltb 0 p) (ltb p 0) h .1)))
+-- it is due, and no rename: its place is reached
+pub record Due (t i u : Table) (c : Cursor) (r : Record) : Type 0 where
+  pub tree-of : TreeOf t
+  pub stands : Stands t u c
+  pub kind-known : T (known r)
+  pub no-rename : r .kind ≡ 3 → ⊥
+  pub run-sound : T (runs i r)
+  pub there : (r .kind ≡ 2 → ⊥) → r .location < length (t .size)
+  pub here : row c ≡ r .location
+  pub under : Under (t .dist) r (c .parent .0)
+  pub none-ahead : c .valued .0 ≤ row c
+  pub left : List (Change ℕ)
+  pub ends : Ends t u c (valued i r ∷ left)
 
-pub skip-none : (cs : List (Change ℕ)) → skip 0 0 cs ≡ cs
-unfolding skip
-skip-none [] = refl
-skip-none (c ∷ cs) = rw (none-lost c)
-
-same-lost : (b : ℕ) (c : Change ℕ) → lost b b c ≡ false
-same-lost b (insert p q s) =
-    false-of (leb b q && ltb q b)
-    (λ h. let w = T-and (leb b q) (ltb q b) h in omega (arith, ltb→lt q b (w .1), leb→le b q (w .0)))
-same-lost b (act p x) =
-    false-of (ltb b p && ltb p b)
-    (λ h. let w = T-and (ltb b p) (ltb p b) h in omega (arith, ltb→lt p b (w .1), ltb→lt b p (w .0)))
-
-pub skip-same : (b : ℕ) (cs : List (Change ℕ)) → skip b b cs ≡ cs
-unfolding skip
-skip-same b [] = refl
-skip-same b (c ∷ cs) = rw (same-lost b c)
+pub record Done (t i u : Table) (c : Cursor) (r : Record) (u′ : Table) (c′ : Cursor) : Type 0 where
+  pub reach : (cs : List (Change ℕ)) → Reach t (stateOf u c (valued i r ∷ cs)) (stateOf u′ c′ (toCome c′ cs))
+  pub stands : Stands t u′ c′
+  pub kept : Kept (out c′) u u′
+  pub grows : out c ≤ out c′
+  pub none-ahead : c′ .valued .0 ≤ row c′
 
 -- ---- the machine's step
 module _ (t u : Table) (c : Cursor) (cs : List (Change ℕ)) where
-  insert-step : (p q : ℕ) (f : Forest ℕ) → c .row ≡ p → c .parent ≡ q
-      → step t (plainly u c (insert p q f ∷ cs)) ≡ pasted (plainly u c (insert p q f ∷ cs)) f (c .row) cs
+  insert-step : (p q : ℕ) (f : Forest ℕ) → row c ≡ p → c .parent .0 ≡ q
+      → step t (plainly u c (insert p q f ∷ cs)) ≡ pasted (plainly u c (insert p q f ∷ cs)) f (row c) cs
   unfolding step
-  insert-step p q f e w = rw (eq-eqb p (c .row) (sym e), eq-eqb (suc q) (suc (c .parent)) (ap suc (sym w)))
+  insert-step p q f e w = rw (eq-eqb p (row c) (sym e), eq-eqb (suc q) (suc (c .parent .0)) (ap suc (sym w)))
 
-  act-step : (p : ℕ) (x : Act ℕ) → c .row ≡ p → (c .row ≡ c .parent + sizeAt t (c .parent) → ⊥)
+  act-step : (p : ℕ) (x : Act ℕ) → row c ≡ p → (row c ≡ c .parent .0 + sizeAt t (c .parent .0) → ⊥)
       → step t (plainly u c (act p x ∷ cs)) ≡ changed t (plainly u c (act p x ∷ cs)) x cs
   unfolding step
-  act-step p x e n = rw (ne-eqb (c .row) (c .parent + sizeAt t (c .parent)) n, eq-eqb p (c .row) (sym e))
+  act-step p x e n = rw (ne-eqb (row c) (c .parent .0 + sizeAt t (c .parent .0)) n, eq-eqb p (row c) (sym e))
 
 -- ---- a run
 module _ {i : Table} {f : ℕ} (R : RunOf i f) where
@@ -90,9 +91,42 @@ module _ {i : Table} {f : ℕ} (R : RunOf i f) where
   run-count : (n : ℕ) → n + count runTree ≡ n + sizeAt i f
   run-count n = omega (arith, R .size)
 
--- from another name of the run's start, and of the cursor
-pub pastes-at : {i u : Table} {c k : Cursor} {f f′ : ℕ} → f ≡ f′ → c ≡ k → Pastes i f′ u k → Pastes i f u c
-pastes-at e w h = rw (e, w) h
+-- ---- the columns with its run
+module _ (i u : Table) (c : Cursor) (r : Record) (n : ℕ) where
+  pub no-run : hasRun r ≡ false → u ≡ withRun i u c r n
+  unfolding withRun
+  no-run h = rw h
+
+  pub a-run : {v : Table} → hasRun r ≡ true → v ≡ laid u (out c) i (r .from) n (out c - c .under .0)
+      → v ≡ withRun i u c r n
+  unfolding withRun
+  a-run h e = rw h e
+
+pub run-is : {b : Bool} → b ≡ true → T b
+run-is e = subst T (sym e) tt
+
+-- ---- whether it brings a run, and takes rows away, by its kind
+module _ (r : Record) where
+  delete-kind : r .kind ≡ 1 → (hasRun r ≡ false) × (removesRows r ≡ true)
+  delete-kind k =
+      let z = ne-eqb (r .kind) 2 (λ e. omega arith) in
+      let y = ne-eqb (r .kind) 4 (λ e. omega arith) in
+      (rw (z, y), rw (eq-eqb (r .kind) 1 k))
+
+  insert-kind : r .kind ≡ 2 → (hasRun r ≡ true) × (removesRows r ≡ false)
+  insert-kind k =
+      let z = ne-eqb (r .kind) 1 (λ e. omega arith) in
+      let y = ne-eqb (r .kind) 4 (λ e. omega arith) in
+      (rw (eq-eqb (r .kind) 2 k), rw (z, y))
+
+  pub no-insert : T (removesRows r) → r .kind ≡ 2 → ⊥
+  no-insert h k = subst T (insert-kind k .1) h
+
+  replace-kind : r .kind ≡ 4 → (hasRun r ≡ true) × (removesRows r ≡ true)
+  replace-kind k =
+      let z = ne-eqb (r .kind) 2 (λ e. omega arith) in
+      let y = ne-eqb (r .kind) 1 (λ e. omega arith) in
+      (rw (z, eq-eqb (r .kind) 4 k), rw (y, eq-eqb (r .kind) 4 k))
 
 module _ {t i u : Table} {c : Cursor} {r : Record} (X : Due t i u c r) where
   -- the end, from the change h that the record means
@@ -105,11 +139,23 @@ module _ {t i u : Table} {c : Cursor} {r : Record} (X : Due t i u c r) where
   reach-as {h} cs e w v =
       reach-eq (ap (λ (x : Change ℕ). stateOf u c (x ∷ cs)) e ∙ as-state u c (h ∷ cs)) v (step-to t w stop)
 
-  behind : c .under < c .out
+  behind : c .under .0 < out c
   behind = X .stands .behind
 
   abbrev d : ℕ
-  d = c .out - c .under
+  d = out c - c .under .0
+
+  -- where the pass stands behind the record
+  abbrev pub next : Stand
+  next =
+      let e = goesOn (t .size) r in
+      stand e (out c + brought (i .size) r) (takenFrom r) (cond (removesRows r) e 0)
+
+  abbrev pub at : Stand → Cursor
+  at s = cursor s (c .parent .0) (c .under .0) (c .valued .0)
+
+  as-done : {v w : Table} {s s′ : Stand} → v ≡ w → s ≡ s′ → Done t i u c r w (at s′) → Done t i u c r v (at s)
+  as-done e w h = rw (e, w) h
 
   -- ---- insert
   module _ (k : r .kind ≡ 2) where
@@ -129,30 +175,29 @@ module _ {t i u : Table} {c : Cursor} {r : Record} (X : Due t i u c r) where
     means-insert = valued-insert i r k ∙ ap (insert (r .location) (r .parent)) (run-plain insert-run)
 
     inserts : (cs : List (Change ℕ))
-        → step t (plainly u c (inserting ∷ cs)) ≡ pasted (plainly u c (inserting ∷ cs)) f (c .row) cs
+        → step t (plainly u c (inserting ∷ cs)) ≡ pasted (plainly u c (inserting ∷ cs)) f (row c) cs
     inserts cs = insert-step t u c cs (r .location) (r .parent) f (X .here) (sym (X .under .insert k))
 
-    insert-fits : Fits u (c .out + count f)
+    insert-fits : Fits u (out c + count f)
     insert-fits = fits (ends-as means-insert) _ (step-to t (inserts (X .left)) stop)
 
-    pub can-insert : Pastes i (r .from) u c
+    can-insert : Pastes i (r .from) n u c
     can-insert =
         record {
           some = omega (arith, insert-run .size);
           there = insert-run .room;
           behind = behind;
-          few = omega (arith, insert-fits .few);
           room = room-less (omega (arith, insert-run .size)) (insert-fits .room);
         }
 
     abbrev inserted : Table
-    inserted = laid u (c .out) i (r .from) n d
+    inserted = laid u (out c) i (r .from) n d
 
     abbrev after-insert : Cursor
-    after-insert = cursor (c .row) (c .out + n) (c .parent) (c .under) 0 0
+    after-insert = at (stand (row c) (out c + n) 0 0)
 
-    insert-grown : Grown (c .out) n (rows d f) u inserted
-    insert-grown = run-grown insert-run (c .out) d (can-insert .room)
+    insert-grown : Grown (out c) n (rows d f) u inserted
+    insert-grown = run-grown insert-run (out c) d (can-insert .room)
 
     insert-done : Done t i u c r inserted after-insert
     insert-done =
@@ -163,7 +208,7 @@ module _ {t i u : Table} {c : Cursor} {r : Record} (X : Due t i u c r) where
               reach-as cs means-insert (inserts cs)
               (ap (stateOf inserted after-insert) (skip-none cs)
               ∙ (grown-state g after-insert refl cs
-              ∙ state-eq refl (sym (run-count insert-run (c .out))) refl refl refl));
+              ∙ state-eq refl (sym (run-count insert-run (out c))) refl refl refl));
           stands =
               record {
                 left = X .stands .left;
@@ -173,39 +218,39 @@ module _ {t i u : Table} {c : Cursor} {r : Record} (X : Due t i u c r) where
               };
           kept = grown-kept g;
           grows = omega arith;
-          none-ahead = omega arith;
+          none-ahead = X .none-ahead;
         }
 
-    -- as the calls name the run, the columns and the cursors
-    pub done-insert : {f : ℕ} {v : Table} {k c′ : Cursor} → f ≡ r .from → v ≡ laid u (c .out) i f (sizeAt i f) d
-        → k ≡ cursor (c .row) (c .out + sizeAt i f) (c .parent) (c .under) (c .gone) (c .till)
-        → c′ ≡ cursor (k .row) (k .out) (k .parent) (k .under) 0 0 → Done t i u c r v c′
-    done-insert ef ev ek ec = rw (ev, ec, ek, ef) insert-done
+    insert-next : next ≡ stand (row c) (out c + n) 0 0
+    insert-next =
+        let z : r .location + 0 ≡ row c = omega (arith, X .here) in
+        rw (insert-kind r k .0, insert-kind r k .1) (λ w. stand (z w) (out c + n) 0 0)
+
+    done-insert : Done t i u c r (withRun i u c r (brought (i .size) r)) (at next)
+    unfolding withRun
+    done-insert = as-done (rw (insert-kind r k .0)) insert-next insert-done
 
   -- ---- the other kinds: the next row is a child of the open row
   module _ (k : r .kind ≡ 2 → ⊥) where
-    ne : c .row ≡ c .parent + sizeAt t (c .parent) → ⊥
+    ne : row c ≡ c .parent .0 + sizeAt t (c .parent .0) → ⊥
     ne =
-        let e : c .row ≡ c .parent + distAt t (c .row) =
-        subst (λ (x : ℕ). x ≡ c .parent + distAt t x) (sym (X .here)) (X .under .other k) in
+        let e : row c ≡ c .parent .0 + distAt t (row c) =
+        subst (λ (x : ℕ). x ≡ c .parent .0 + distAt t x) (sym (X .here)) (X .under .other k) in
         not-end (X .tree-of) (X .stands .line) e (omega (arith, X .here, X .there k))
 
-    child : Child t u (c .row) (c .parent) (c .under)
+    child : Child t u (row c) (c .parent .0) (c .under .0)
     child = line-child (X .tree-of) (X .stands .line) ne
-
-    pub row-there : (c .row < length (t .size)) × (length (t .size) ≤ 65535)
-    row-there = (omega (arith, X .here, X .there k), omega (arith, tall-tree (X .tree-of) .size, X .tree-of .few))
 
     acts : (x : Act ℕ) (cs : List (Change ℕ))
         → step t (plainly u c (act (r .location) x ∷ cs)) ≡ changed t (plainly u c (act (r .location) x ∷ cs)) x cs
     acts x cs = act-step t u c cs (r .location) x (X .here) ne
 
     abbrev m : ℕ
-    m = sizeAt t (c .row)
+    m = sizeAt t (row c)
 
     -- the row is left out
     abbrev left-out : Cursor
-    left-out = cursor (c .row + m) (c .out) (c .parent) (c .under) (c .row) (c .row + m)
+    left-out = at (stand (row c + m) (out c) (row c) (row c + m))
 
     -- ---- delete
     module _ (k1 : r .kind ≡ 1) where
@@ -215,8 +260,8 @@ module _ {t i u : Table} {c : Cursor} {r : Record} (X : Due t i u c r) where
             reach =
                 λ cs.
                 reach-as cs (valued-delete i r k1) (acts delete cs)
-                (as-state u left-out (skip (c .row) (c .row + m) cs)
-                ∙ state-eq refl (sym (add-zero (c .out))) refl refl (sym (none-behind (firstRows (c .out) u) d)));
+                (as-state u left-out (skip (row c) (row c + m) cs)
+                ∙ state-eq refl (sym (add-zero (out c))) refl refl (sym (none-behind (firstRows (out c) u) d)));
             stands =
                 record {
                   left = child .rest;
@@ -224,19 +269,23 @@ module _ {t i u : Table} {c : Cursor} {r : Record} (X : Due t i u c r) where
                   behind = behind;
                   room = X .stands .room;
                 };
-            kept = kept-none (c .out) u;
+            kept = kept-none (out c) u;
             grows = omega arith;
-            none-ahead = omega arith;
+            none-ahead = omega (arith, X .none-ahead);
           }
 
-      pub done-delete : {k : Cursor} → k ≡ left-out → Done t i u c r u k
-      done-delete e = rw e delete-done
+      delete-next : next ≡ stand (row c + m) (out c) (row c) (row c + m)
+      delete-next =
+          let h = sym (X .here) in
+          rw (delete-kind r k1 .0, delete-kind r k1 .1)
+          (λ w. stand (h w + sizeAt t (h w)) (add-zero (out c) w) (h w) (h w + sizeAt t (h w)))
+
+      done-delete : Done t i u c r (withRun i u c r (brought (i .size) r)) (at next)
+      unfolding withRun
+      done-delete = as-done (rw (delete-kind r k1 .0)) delete-next delete-done
 
     -- ---- replace
-    module _ (k3 : r .kind ≡ 3 → ⊥) (k1 : r .kind ≡ 1 → ⊥) where
-      is-replace : r .kind ≡ 4
-      is-replace = by-kind r (X .kind-known) (λ e. absurd (k1 e)) (λ e. absurd (k e)) (λ e. absurd (k3 e)) (λ e. e)
-
+    module _ (is-replace : r .kind ≡ 4) where
       replace-run : RunOf i (r .from)
       replace-run = run-of i r (X .run-sound) (or-right (isInsert r) (isReplace r) (eq→eqb (r .kind) 4 is-replace))
 
@@ -247,27 +296,26 @@ module _ {t i u : Table} {c : Cursor} {r : Record} (X : Due t i u c r) where
       means-replace =
           valued-replace i r is-replace ∙ ap (λ (f : Forest ℕ). act (r .location) (replace f)) (run-plain replace-run)
 
-      replace-fits : Fits u (c .out + count (runTree replace-run))
+      replace-fits : Fits u (out c + count (runTree replace-run))
       replace-fits = fits (ends-as means-replace) _ (step-to t (acts (replace (runTree replace-run)) (X .left)) stop)
 
-      pub can-replace : Pastes i (r .from) u left-out
+      can-replace : Pastes i (r .from) n′ u c
       can-replace =
           record {
             some = omega (arith, replace-run .size);
             there = replace-run .room;
             behind = behind;
-            few = omega (arith, replace-fits .few);
             room = room-less (omega (arith, replace-run .size)) (replace-fits .room);
           }
 
       abbrev replaced : Table
-      replaced = laid u (c .out) i (r .from) n′ d
+      replaced = laid u (out c) i (r .from) n′ d
 
       abbrev after-replace : Cursor
-      after-replace = cursor (c .row + m) (c .out + n′) (c .parent) (c .under) (c .row) (c .row + m)
+      after-replace = at (stand (row c + m) (out c + n′) (row c) (row c + m))
 
-      replace-grown : Grown (c .out) n′ (rows d (runTree replace-run)) u replaced
-      replace-grown = run-grown replace-run (c .out) d (can-replace .room)
+      replace-grown : Grown (out c) n′ (rows d (runTree replace-run)) u replaced
+      replace-grown = run-grown replace-run (out c) d (can-replace .room)
 
       replace-done : Done t i u c r replaced after-replace
       replace-done =
@@ -276,8 +324,8 @@ module _ {t i u : Table} {c : Cursor} {r : Record} (X : Due t i u c r) where
             reach =
                 λ cs.
                 reach-as cs means-replace (acts (replace (runTree replace-run)) cs)
-                (grown-state g after-replace refl (skip (c .row) (c .row + m) cs)
-                ∙ state-eq refl (sym (run-count replace-run (c .out))) refl refl refl);
+                (grown-state g after-replace refl (skip (row c) (row c + m) cs)
+                ∙ state-eq refl (sym (run-count replace-run (out c))) refl refl refl);
             stands =
                 record {
                   left = child .rest;
@@ -289,10 +337,27 @@ module _ {t i u : Table} {c : Cursor} {r : Record} (X : Due t i u c r) where
                 };
             kept = grown-kept g;
             grows = omega arith;
-            none-ahead = omega arith;
+            none-ahead = omega (arith, X .none-ahead);
           }
 
-      pub done-replace : {f : ℕ} {v : Table} {k c′ : Cursor} → f ≡ r .from → k ≡ left-out
-          → v ≡ laid u (k .out) i f (sizeAt i f) (k .out - k .under)
-          → c′ ≡ cursor (k .row) (k .out + sizeAt i f) (k .parent) (k .under) (k .gone) (k .till) → Done t i u c r v c′
-      done-replace ef ek ev ec = rw (ev, ec, ek, ef) replace-done
+      replace-next : next ≡ stand (row c + m) (out c + n′) (row c) (row c + m)
+      replace-next =
+          let h = sym (X .here) in
+          rw (replace-kind r is-replace .0, replace-kind r is-replace .1)
+          (λ w. stand (h w + sizeAt t (h w)) (out c + n′) (h w) (h w + sizeAt t (h w)))
+
+      done-replace : Done t i u c r (withRun i u c r (brought (i .size) r)) (at next)
+      unfolding withRun
+      done-replace = as-done (rw (replace-kind r is-replace .0)) replace-next replace-done
+
+  -- ---- whatever its kind is
+  pub can-bring : Brings i u c r (brought (i .size) r)
+  can-bring h =
+      by-kind r (X .kind-known) (λ k. absurd (subst T (delete-kind r k .0) h))
+      (λ k. rw (insert-kind r k .0) (can-insert k)) (λ k. absurd (X .no-rename k))
+      (λ k. rw (replace-kind r k .0) (can-replace (λ z. omega arith) k))
+
+  pub done : Done t i u c r (withRun i u c r (brought (i .size) r)) (at next)
+  done =
+      by-kind r (X .kind-known) (λ k. done-delete (λ z. omega arith) k) done-insert (λ k. absurd (X .no-rename k))
+      (λ k. done-replace (λ z. omega arith) k)

@@ -11,7 +11,7 @@ use Rattle.plan.specs.Tree.{count}
 use Rattle.plan.specs.Table.{Table, even, sound, mostRows}
 use Rattle.plan.specs.Paint.{old, plan, written}
 use Rattle.plan.specs.Call.{result, over}
-use Rattle.plan.proofs.Tested.{PassAll}
+use Rattle.plan.specs.Records.{PassAll}
 
 -- given: a sound table t, insertions i, a list l that passes tests 4 to 8, and new columns u with room for the result
 pub record Given (t i : Table) (l : List Record) (u : Table) : Type 0 where

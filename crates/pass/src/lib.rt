@@ -1,108 +1,77 @@
 // The pass: a list of records over the columns of a table, in one walk from left to right. Old rows are copied, records
 // are taken as their places come; what is open is found again by the distances, so there is no array and no stack.
 // In the contracts t is the table, i the insertions, u the new columns before, and v after.
-use moves::Cursor;
-use moves::end;
-use moves::leave;
-use moves::narrow;
-use moves::paste;
-use moves::revalue;
-use moves::stretch;
+use judge_record::run::has_run;
+use judge_record::way::meet;
+use judge_record::way::row_behind;
+use judge_record::way::run_rows;
+use pass_moves::Cursor;
+use pass_moves::close;
+use pass_moves::end;
+use pass_moves::paste;
+use pass_moves::revalue;
+use pass_moves::stretch;
+use pass_way::elsewhere;
+use pass_way::upto;
+use plan::Meeting;
+use plan::NewPre;
+use plan::OldPre;
 use plan::Record;
-use plan::wide;
-use walk::upto;
+use plan::Stand;
 ghost use mathlib.Core.Path.{_≡_};
 ghost use Prim.Native.Nat.{_<_, _≤_};
 ghost use lib.ListN.{length, getD};
 ghost use Rattle.plan.specs.Table.{table};
-ghost use Rattle.plan.proofs.Stretch.{Room};
-ghost use Rattle.moves.specs.Written.{cursor, rowed};
-ghost use Rattle.pass.specs.Taking.{Under, lostRecord, Due, Done};
+ghost use Rattle.plan.specs.Way.{stand};
+ghost use Rattle.pass_moves.specs.Rows.{Room};
+ghost use Rattle.pass_moves.specs.Written.{row, cursor, rowed};
+ghost use Rattle.pass_way.specs.Machine.{Away};
+ghost use Rattle.pass_way.specs.Walk.{ahead};
+ghost use Rattle.pass.specs.Taking.{Under, Brings, withRun};
 ghost use Rattle.pass.specs.Underway.{Next, Taken, Last, Copied, Finished};
 
-// No old rows are gone.
-fn fresh(c: Cursor) -> Cursor
-    ensures { λ r. ⌜ r ≡ cursor (c .row) (c .out) (c .parent) (c .under) 0 0 ⌝ }
-{
-    Cursor {
-        row: c.row,
-        out: c.out,
-        parent: c.parent,
-        under: c.under,
-        gone: 0,
-        till: 0,
-    }
-}
-
-// The record's change is made: its place is reached. It is no rename.
-fn take(
+// The record's run, of so many rows, becomes the next new rows.
+fn bring(
     c: Cursor,
     r: Record,
-    dist: &[u32],
-    size: &[u32],
-    value: &[u32],
+    run: u32,
     idist: &[u32],
     isize: &[u32],
     ivalue: &[u32],
     ndist: &mut [u32],
     nsize: &mut [u32],
     nvalue: &mut [u32],
-) -> Cursor
+)
     requires { ⌜ (
-        let t = table (now dist) (now size) (now value) in
         let i = table (now idist) (now isize) (now ivalue) in
         let u = table (now ndist) (now nsize) (now nvalue) in
-        Due t i u c r) ⌝ }
+        Brings i u c r run) ⌝ }
     ensures { λ k. ⌜ (
-        let t = table (now (dist .entry)) (now (size .entry)) (now (value .entry)) in
         let i = table (now (idist .entry)) (now (isize .entry)) (now (ivalue .entry)) in
         let u = table (now (ndist .entry)) (now (nsize .entry)) (now (nvalue .entry)) in
         let v = table (now (ndist .exit)) (now (nsize .exit)) (now (nvalue .exit)) in
-        Done t i u c r v k) ⌝ }
+        v ≡ withRun i u c r run) ⌝ }
 {
-    let kind = r.kind;
-    let from = wide(r.from);
-    if kind == Record::INSERT {
-        let t = paste(c, idist, isize, ivalue, from, ndist, nsize, nvalue);
-        return fresh(t);
+    if !has_run(r) {
+        return;
     }
-    let t = leave(c, size);
-    if kind == Record::DELETE {
-        return t;
-    }
-    paste(t, idist, isize, ivalue, from, ndist, nsize, nvalue)
-}
-
-// Is the record lost with the old rows from `gone` up to `till`?
-fn vain(gone: usize, till: usize, r: Record) -> bool
-    ensures { λ b. ⌜ b ≡ lostRecord gone till r ⌝ }
-{
-    let p = wide(r.location);
-    let q = wide(r.parent);
-    if r.kind == Record::INSERT {
-        if q < gone {
-            return false;
-        }
-        return q < till;
-    }
-    if p <= gone {
-        return false;
-    }
-    p < till
+    let from = r.from as usize;
+    let count = run as usize;
+    paste(c, idist, isize, ivalue, from, count, ndist, nsize, nvalue);
 }
 
 // The row under which the record's change is made: an insert's own parent.
-fn parent_of(dist: &[u32], r: Record) -> usize
+fn parent_of(dist: &[u32], r: Record) -> OldPre
     requires { ⌜ (
         let p = r .location in
         (r .kind ≡ 2 → ⊥) → (p < length (now dist)) × (getD (now dist) p 0 ≤ p)) ⌝ }
-    ensures { λ q. ⌜ Under (now (dist .entry)) r q ⌝ }
+    ensures { λ q. ⌜ Under (now (dist .entry)) r (q .0) ⌝ }
 {
     if r.kind != Record::INSERT {
-        let p = wide(r.location);
-        return p - wide(dist[p]);
+        let p = r.location;
+        return OldPre(p - dist[p as usize]);
     }
-    wide(r.parent)
+    OldPre(r.parent)
 }
 
 // The next record is taken. The root is open already: a record there gives it another value. So does a rename, to a row
@@ -132,36 +101,46 @@ pub fn one(
         let v = table (now (ndist .exit)) (now (nsize .exit)) (now (nvalue .exit)) in
         Taken t i u c r v k) ⌝ }
 {
-    let p = wide(r.location);
-    if p == 0 {
+    if r.location == 0 {
         nvalue[0] = r.value;
         return c;
     }
-    if vain(c.gone, c.till, r) {
-        return c;
+    let s = c.stand;
+    let behind = row_behind(size, r);
+    let run = run_rows(isize, r);
+    match meet(s, r, behind, run) {
+        Meeting::Vain => c,
+        Meeting::Renamed(next) => {
+            let parent = c.parent;
+            let under = c.under;
+            let p = OldPre(r.location);
+            revalue(c, p, r.value, value, nvalue);
+            Cursor {
+                stand: next,
+                parent: parent,
+                under: under,
+                valued: OldPre(r.location + 1),
+            }
+        }
+        Meeting::Here(p, rows, next) => {
+            let q = parent_of(dist, r);
+            let k = upto(c, p, q, dist, size, value, ndist, nsize, nvalue);
+            let parent = k.parent;
+            let under = k.under;
+            let valued = k.valued;
+            bring(k, r, rows, idist, isize, ivalue, ndist, nsize, nvalue);
+            Cursor {
+                stand: next,
+                parent: parent,
+                under: under,
+                valued: valued,
+            }
+        }
     }
-    if r.kind == Record::RENAME {
-        return revalue(c, p, r.value, value, nvalue);
-    }
-    let q = parent_of(dist, r);
-    let t = upto(c, p, q, dist, size, value, ndist, nsize, nvalue);
-    take(
-        t,
-        r,
-        dist,
-        size,
-        value,
-        idist,
-        isize,
-        ivalue,
-        ndist,
-        nsize,
-        nvalue,
-    )
 }
 
-// Behind the last record: when all rows that are left lie under the open row, they are copied at once.
-fn tail(
+// Behind the last record, one step: the open row is closed, or all rows left under it are copied.
+fn tail_step(
     c: Cursor,
     dist: &[u32],
     size: &[u32],
@@ -173,19 +152,49 @@ fn tail(
     requires { ⌜ (
         let t = table (now dist) (now size) (now value) in
         let u = table (now ndist) (now nsize) (now nvalue) in
-        Last t u c) ⌝ }
+        Last t u c × Away (length (now size)) 0 (row c) (c .parent .0)) ⌝ }
     ensures { λ k. ⌜ (
         let t = table (now (dist .entry)) (now (size .entry)) (now (value .entry)) in
         let u = table (now (ndist .entry)) (now (nsize .entry)) (now (nvalue .entry)) in
         let v = table (now (ndist .exit)) (now (nsize .exit)) (now (nvalue .exit)) in
-        Copied t u c v k) ⌝ }
+        Copied t u c v k × (ahead t k < ahead t c)) ⌝ }
 {
-    let n = size.len();
-    let e = end(size, c.parent);
-    if e != n {
-        return c;
+    let s = c.stand;
+    let open = c.parent;
+    let e = end(size, open);
+    if s.row.0 == e.0 {
+        return close(c, dist, ndist, nsize);
     }
-    stretch(c, n, dist, size, value, ndist, nsize, nvalue)
+    stretch(c, e, dist, size, value, ndist, nsize, nvalue)
+}
+
+// Behind the last record: all rows that are left are copied, and the root alone stays open.
+fn tail(
+    start: Cursor,
+    dist: &[u32],
+    size: &[u32],
+    value: &[u32],
+    ndist: &mut [u32],
+    nsize: &mut [u32],
+    nvalue: &mut [u32],
+) -> Cursor
+    requires { ⌜ (
+        let t = table (now dist) (now size) (now value) in
+        let u = table (now ndist) (now nsize) (now nvalue) in
+        Last t u start) ⌝ }
+    ensures { λ k. ⌜ (
+        let t = table (now (dist .entry)) (now (size .entry)) (now (value .entry)) in
+        let u = table (now (ndist .entry)) (now (nsize .entry)) (now (nvalue .entry)) in
+        let v = table (now (ndist .exit)) (now (nsize .exit)) (now (nvalue .exit)) in
+        Copied t u start v k × (row k ≡ length (now (size .entry))) × (k .parent .0 ≡ 0)) ⌝ }
+{
+    let n = OldPre(size.len() as u32);
+    let root = OldPre(0);
+    let mut c = start;
+    while elsewhere(c, n, root) {
+        c = tail_step(c, dist, size, value, ndist, nsize, nvalue);
+    }
+    c
 }
 
 // The rows behind the last record, and the root's size. The answer is the number of new rows.
@@ -208,17 +217,16 @@ pub fn finish(
         let v = table (now (ndist .exit)) (now (nsize .exit)) (now (nvalue .exit)) in
         Finished t u c v n) ⌝ }
 {
-    let n = size.len();
-    let s = tail(c, dist, size, value, ndist, nsize, nvalue);
-    let t = upto(s, n, 0, dist, size, value, ndist, nsize, nvalue);
-    nsize[0] = narrow(t.out);
-    t.out
+    let k = tail(c, dist, size, value, ndist, nsize, nvalue);
+    let last = k.stand;
+    nsize[0] = last.out.0;
+    last.out.0 as usize
 }
 
 // The root's row, with the value a. It is open.
 pub fn begin(a: u32, ndist: &mut [u32], nsize: &mut [u32], nvalue: &mut [u32]) -> Cursor
     requires { ⌜ Room 1 (table (now ndist) (now nsize) (now nvalue)) ⌝ }
-    ensures { λ r. ⌜ r ≡ cursor 1 1 0 0 0 0 ⌝ }
+    ensures { λ r. ⌜ r ≡ cursor (stand 1 1 0 0) 0 0 0 ⌝ }
     ensures { λ r. ⌜ (
         let u = table (now (ndist .entry)) (now (nsize .entry)) (now (nvalue .entry)) in
         let v = table (now (ndist .exit)) (now (nsize .exit)) (now (nvalue .exit)) in
@@ -228,11 +236,14 @@ pub fn begin(a: u32, ndist: &mut [u32], nsize: &mut [u32], nvalue: &mut [u32]) -
     nsize[0] = 0;
     nvalue[0] = a;
     Cursor {
-        row: 1,
-        out: 1,
-        parent: 0,
-        under: 0,
-        gone: 0,
-        till: 0,
+        stand: Stand {
+            row: OldPre(1),
+            out: NewPre(1),
+            first: OldPre(0),
+            end: OldPre(0),
+        },
+        parent: OldPre(0),
+        under: NewPre(0),
+        valued: OldPre(0),
     }
 }

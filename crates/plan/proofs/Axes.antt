@@ -14,6 +14,7 @@ use lib.ListN.{length, drop, replicate, length-take, length-drop}
 use lib.Seq.{take-at, drop-append-le, drop-append-add}
 use Rattle.plan.specs.Tree.{Forest, none, tree, count, labels, sizes, dists, from, children}
 use Rattle.plan.specs.Table.{Table, tableOf}
+pub use Rattle.plan.specs.Table.{tree-of}
 use Rattle.plan.specs.declared.Verdict.{Verdict}
 use Rattle.plan.specs.declared.Verdict.the-variants.{Passed, Failed}
 use Rattle.plan.specs.Axes.{cell, row, nothing, refuse, asked, whole, parent, firstChild, nextSibling, subtreeTop, subtree, walkStart, Walked, child, ended, stopped, step, steps, top, later, starts, roots, parentUnder, parentIn, firstChildIn, nextSiblingIn, subtreeIn, childrenIn}
@@ -167,11 +168,6 @@ module _ (a : ℕ) (k : Forest ℕ) where
       let w = size-of r l in
       walk-roots (sizes T) (children (from T r)) (r + 1) (r + S r) j (kids-of r l)
       (omega (arith, w .0, count-top (from T r) (omega (arith, w .0, w .1))))
-
--- ---- a sound table: h is its tree
--- the tree whose table it is
-abbrev pub tree-of : {t : Table} → TreeOf t → Forest ℕ
-tree-of h = tree (h .root) (h .kids) none
 
 module _ (t : Table) (h : TreeOf t) (r : ℕ) (l : r < length (t .size)) where
   row-of : r < count (tree-of h)

@@ -186,7 +186,7 @@ module _ {A : Type 0} where
       (still (suc b + count k) u r c d (omega arith) t)
 
   -- what may stand before a list has its place when the list is made
-  still-all : (b u : ℕ) (f : Forest A) (c : Change A) (cs : List (Change A)) → u ≤ b → T (valid b u f c)
+  pub still-all : (b u : ℕ) (f : Forest A) (c : Change A) (cs : List (Change A)) → u ≤ b → T (valid b u f c)
       → All (λ d. T (before c d)) cs → Fit b u f cs → T (valid b u (allMade b u cs f) c)
   still-all b u f c [] h v o w = v
   still-all b u f c (d ∷ cs) h v o w =

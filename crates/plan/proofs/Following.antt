@@ -56,11 +56,6 @@ module _ (q p k n : ℕ) (rest : List Origin) where
       past-rows old q (p - q) x (rowsOf (new k) 0 n ++ rest) l
       ∙ (at-rows (new k) 0 n (x - (p - q)) rest (omega arith) ∙ ap (new k) (omega arith))
 
-  pub at-past : (x : ℕ) → p - q + n ≤ x → originAt spliced x ≡ originAt rest (x - (p - q + n))
-  at-past x l =
-      past-rows old q (p - q) x (rowsOf (new k) 0 n ++ rest) (omega arith)
-      ∙ (past-rows (new k) 0 n (x - (p - q)) rest (omega arith) ∙ ap (originAt rest) (omega arith))
-
   -- what becomes of the old row x, where the next new row is j
   all-new : (y m : ℕ) → AllNew (rowsOf (new k) y m)
   all-new y zero = tt

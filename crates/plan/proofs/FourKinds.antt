@@ -1,11 +1,9 @@
--- The four kinds of record: what a record of each kind is read as, what it brings, what it takes away, and whether it
--- is lost with rows that are gone.
+-- The four kinds of record: what a record of each kind is read as.
 -- Assumes nothing.
 use Prim.Native.Nat.{ℕ, _+_, _≤_, _<_}
 use native.Mathlib.Omega.{arith}
 use mathlib.Core.Path.{_≡_}
-use mathlib.Core.Bool.{Bool, true, false, not, cond, _&&_, _||_}
-use mathlib.Core.List.{List}
+use mathlib.Core.Bool.{Bool, true, false, not, _&&_, _||_}
 use lib.Dec.{T, leb, ltb, leb→le, ltb→lt}
 use lib.ListN.{length, getD}
 use Rattle.plan.specs.declared.Record.{Record}
@@ -13,32 +11,9 @@ use Rattle.plan.specs.Tree.{Forest}
 use Rattle.plan.specs.Table.{Table, sound, run}
 use Rattle.plan.specs.Change.{delete, rename, replace, insert, act, location}
 use Rattle.plan.specs.Paint.{Painted, new, plan}
-use Rattle.plan.specs.Records.{isDelete, isInsert, isReplace, change, known, runs}
+use Rattle.plan.specs.Records.{change, known, runs}
+use Rattle.plan.specs.Way.{hasRun}
 use Rattle.plan.proofs.Kit.{T-and, by-place}
-
--- ---- a record by itself
--- does it bring a run, does it take rows away?
-abbrev pub hasRun : Record → Bool
-hasRun r = isInsert r || isReplace r
-
-abbrev pub removesRows : Record → Bool
-removesRows r = isDelete r || isReplace r
-
--- is it lost with the rows from first up to end?
-abbrev pub lostWith : (first end : ℕ) → Record → Bool
-lostWith first end r =
-    cond (isInsert r) (leb first (r .parent) && ltb (r .parent) end)
-    (ltb first (r .location) && ltb (r .location) end)
-
--- the rows of its run, the rows that it takes away, and from where on
-abbrev pub brought : (isize : List ℕ) → Record → ℕ
-brought isize r = cond (hasRun r) (getD isize (r .from) 0) 0
-
-abbrev pub taken : (size : List ℕ) → Record → ℕ
-taken size r = cond (removesRows r) (getD size (r .location) 0) 0
-
-abbrev pub takenFrom : Record → ℕ
-takenFrom r = cond (removesRows r) (r .location) 0
 
 -- ---- kind by kind
 pub by-kind : {P : Type 0} (r : Record) → T (known r)

@@ -7,6 +7,7 @@ use mathlib.Core.Path.{_≡_, refl, sym, subst}
 use mathlib.Core.Bool.{Bool, true, false, not, cond, _&&_, _||_}
 use mathlib.Core.List.{List, [], _∷_, _++_}
 use lib.Dec.{T, eqb, eqb-refl}
+pub use Rattle.plan.specs.Records.{All}
 
 -- ---- tests
 pub true-of : (x : Bool) → T x → x ≡ true
@@ -78,10 +79,6 @@ pub by-side {ℓ} : {P : Type ℓ} (z b : ℕ) → (z < b → P) → (b ≤ z �
 by-side z b f g = by-place z b f (λ e. g (omega arith)) (λ l. g (omega arith))
 
 -- ---- lists
-abbrev pub All : {C : Type 0} → (C → Type 0) → List C → Type 0
-All P [] = Unit {0}
-All P (c ∷ cs) = P c × All P cs
-
 module _ {C : Type 0} (P : C → Type 0) where
   pub all-append : (xs ys : List C) → All P xs → All P ys → All P (xs ++ ys)
   all-append [] ys h l = l

@@ -48,7 +48,7 @@ module _ {A : Type 0} where
       let e : count k + count r - count k ≡ count r = omega arith in
       opens-later a k r (count k + count r) (omega arith) (rw e (opens-end r))
 
-  opens-most : (f : Forest A) (x : ℕ) → T (opens f x) → x ≤ count f
+  pub opens-most : (f : Forest A) (x : ℕ) → T (opens f x) → x ≤ count f
   unfolding opens
   opens-most none x t = let e = eqb→eq x 0 t in omega arith
   opens-most (tree a k r) zero t = omega arith

@@ -15,14 +15,15 @@ use Rattle.plan.specs.Change.{delete, rename, replace, Change, insert, a
 use Rattle.plan.specs.Paint.{Origin, old, new, Painted, painted, plan, origins}
 use Rattle.plan.specs.Records.{isDelete, isInsert, isRename, change, changes, located}
 use Rattle.plan.specs.Call.{result}
-use Rattle.plan.specs.Mapping.{fate}
+pub use Rattle.plan.specs.Call.{keptOf}
+use Rattle.plan.specs.Mapping.{Fate, fate, Formula, removed, moved}
 use Rattle.plan.proofs.Kit.{T-and, cond-elim, All}
 use Rattle.plan.proofs.Readback.{labels-spelled, count-spelled}
 use Rattle.plan.proofs.Cut.{Fit}
 use Rattle.plan.proofs.Fits.{InOrder, changes-read, fits}
 use Rattle.plan.proofs.Kept.{all-kept}
 use Rattle.plan.proofs.Merge.{part, brings, onward, merged, Chain, chain-most, not-back, kept-chain, meaning-merged}
-use Rattle.plan.proofs.Mapping.{rowsOf, AllNew, arrives, track, Honest, Told, told}
+use Rattle.plan.proofs.Mapping.{rowsOf, AllNew, arrives, track, Honest, Told, went, stayed, told}
 
 -- ---- parts of a painted column
 module _ {X Y : Type 0} (f : X → Y) where
@@ -153,10 +154,6 @@ pub record Fair (t : Table) (l : List Record) : Type 0 where
   pub places : All (λ r. T (located (plan old t) r)) l
   pub order : InOrder Nothing l
 
--- the kept changes
-abbrev pub keptOf : (t i : Table) → List Record → List (Change Painted)
-keptOf t i l = kept (plan old t) [] (changes i 0 l)
-
 module _ (t i : Table) (l : List Record) (w : Fair t l) where
   abbrev K : List (Change Painted)
   K = keptOf t i l
@@ -187,3 +184,10 @@ module _ (t i : Table) (l : List Record) (w : Fair t l) where
   pub new-number : (r : ℕ) → r < length (t .size) → Told (plan old t) 0 0 r K (fate (origins (result t i l)) 0 r)
   new-number r k =
       rw origins-result (told (plan old t) 0 (length (t .size)) K 0 r kept-follow kept-honest (omega arith) k)
+
+  pub number-formula : (r : ℕ) → r < length (t .size) → Formula (plan old t) r K (fate (origins (result t i l)) 0 r)
+  number-formula r k = go (fate (origins (result t i l)) 0 r) (new-number r k)
+    where
+      go : (f : Fate) → Told (plan old t) 0 0 r K f → Formula (plan old t) r K f
+      go f (went a b) = rw b (removed a)
+      go f (stayed a m b e) = rw b (moved a m (omega (arith, e)))

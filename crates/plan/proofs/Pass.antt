@@ -8,6 +8,7 @@ use mathlib.Core.Bool.{true, false, cond}
 use mathlib.Core.List.{List, [], _∷_, _++_, append-assoc, append-nil}
 use lib.Dec.{T, eqb}
 use Rattle.plan.specs.Tree.{Forest, none, tree, count, _⊕_}
+unfoldable pub use Rattle.plan.specs.Change.{skip}
 use Rattle.plan.specs.Change.{Act, delete, rename, replace, Change, insert, act, instead, lost}
 use Rattle.plan.proofs.Kit.{true-of, false-of, All, all-append, all-map}
 use Rattle.plan.proofs.Standing.{kids, past, sort-kids, sort-past, only-kids, location, row, mine, side, made, allMade, valid, before, here, told, mine-told, lost-told, ord}
@@ -32,11 +33,6 @@ module _ {A : Type 0} where
   arrivals b u go (act p x ∷ cs) = go (act p x ∷ cs)
   arrivals b u go (insert p q s ∷ cs) =
       cond (mine b u (insert p q s)) (ahead s (arrivals b u go cs)) (go (insert p q s ∷ cs))
-
-  -- the list behind the changes that are lost with the rows from b up to e
-  unfoldable pub skip : (b e : ℕ) → List (Change A) → List (Change A)
-  skip b e [] = []
-  skip b e (c ∷ cs) = cond (lost b e c) (skip b e cs) (c ∷ cs)
 
   -- a tree with label a, what the pass K makes of its children, and what the pass R makes of the rest
   abbrev pub both : A → Pass A → Pass A → Pass A

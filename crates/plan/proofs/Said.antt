@@ -13,7 +13,8 @@ use Rattle.plan.specs.Table.{Table, even}
 use Rattle.plan.specs.Change.{Change, location, lost}
 use Rattle.plan.specs.Paint.{Painted, new}
 use Rattle.plan.specs.Records.{isRename, change, known, runs}
-use Rattle.plan.proofs.FourKinds.{lostWith, brought, taken, takenFrom, by-kind, is-delete, is-insert, is-rename, is-replace, run-within}
+use Rattle.plan.specs.Way.{vain, brought, taken, takenFrom}
+use Rattle.plan.proofs.FourKinds.{by-kind, is-delete, is-insert, is-rename, is-replace, run-within}
 use Rattle.plan.proofs.Trimmed.{gone-from, gone-to}
 use Rattle.plan.proofs.Merge.{onward}
 use Rattle.plan.proofs.Mapping.{rowsOf, arrives}
@@ -22,7 +23,7 @@ use Rattle.plan.proofs.Following.{run-rows}
 -- c is what r says, seen from the origins: of a table with these sizes, and insertions with those
 pub record Says (t : Forest Painted) (size isize : List ℕ) (k : ℕ) (r : Record) (c : Change Painted) : Type 0 where
   pub at-location : location c ≡ r .location
-  pub is-lost : (first end : ℕ) → lost first end c ≡ lostWith first end r
+  pub is-lost : (first end : ℕ) → lost first end c ≡ vain first end r
   pub from-row : gone-from t c ≡ takenFrom r
   pub to-row : gone-to t c ≡ takenFrom r + taken size r
   pub goes-on : isRename r ≡ false → onward t c ≡ r .location + taken size r

@@ -10,6 +10,7 @@ use mathlib.Core.List.{List, [], _∷_}
 use lib.Dec.{T, leb, eqb, leb→le, le→leb, eqb→eq, eqb-refl}
 use Rattle.plan.specs.Tree.{Forest, none, tree, count, labels, sizes, isTree}
 use Rattle.plan.specs.Table.{Table, tableOf, spelled, same, sameTable, mostRows, sound}
+pub use Rattle.plan.specs.Table.{TreeOf}
 use Rattle.plan.proofs.Kit.{T-and, and-T}
 use Rattle.plan.proofs.Readback.{read-back, decide}
 
@@ -44,13 +45,6 @@ sameTable-refl t =
     (and-T (same (t .size) (t .size)) _ (same-refl (t .size)) (same-refl (t .value)))
 
 -- ---- the tree of a sound table
--- t is the table of the tree with root label and kids, of at most 65,535 rows
-pub record TreeOf (t : Table) : Type 0 where
-  pub root : ℕ
-  pub kids : Forest ℕ
-  pub is-table : t ≡ tableOf (tree root kids none)
-  pub few : suc (count kids) ≤ mostRows
-
 -- a forest that is one tree
 record OneTree (f : Forest ℕ) : Type 0 where
   root : ℕ

@@ -14,6 +14,7 @@ use Rattle.plan.specs.declared.Verdict.the-variants.{Passed}
 use Rattle.plan.specs.Tree.{Forest}
 use Rattle.plan.specs.Table.{Table}
 use Rattle.plan.specs.Records.{known, located, runs, follows, alone, failing}
+pub use Rattle.plan.specs.Records.{Passes, PassAll}
 use Rattle.plan.specs.Call.{test, tested}
 use Rattle.plan.proofs.Kit.{true-of, All}
 use Rattle.plan.proofs.Verdicts.{test-true, then-passed}
@@ -35,32 +36,19 @@ zero-pick : (k l r f a : Bool) → T k → T l → T r → T f → T a → pick 
 zero-pick k l r f a s t u v w = rw (true-of k s, true-of l t, true-of r u, true-of f v, true-of a w)
 
 module _ {A : Type 0} (t : Forest A) (i : Table) where
-  -- a record behind b passes
-  pub record Passes (b : Before) (r : Record) : Type 0 where
-    pub kind-known : T (known r)
-    pub in-place : T (located t r)
-    pub run-sound : T (runs i r)
-    pub in-order : T (follows b r)
-    pub by-itself : T (alone b r)
-
-  -- all records of a list do
-  abbrev pub PassAll : Before → List Record → Type 0
-  PassAll b [] = Unit {0}
-  PassAll b (r ∷ rs) = Passes b r × PassAll (After r) rs
-
-  pub passes : (b : Before) (r : Record) → failing t i b r ≡ 0 → Passes b r
+  pub passes : (b : Before) (r : Record) → failing t i b r ≡ 0 → Passes t i b r
   unfolding failing
   passes b r e =
       let w = pick-zero (known r) (located t r) (runs i r) (follows b r) (alone b r) e in
       record { kind-known = w .0; in-place = w .1; run-sound = w .2; in-order = w .3; by-itself = w .4 }
 
-  pub none-failing : (b : Before) (r : Record) → Passes b r → failing t i b r ≡ 0
+  pub none-failing : (b : Before) (r : Record) → Passes t i b r → failing t i b r ≡ 0
   unfolding failing
   none-failing b r h =
       zero-pick (known r) (located t r) (runs i r) (follows b r) (alone b r) (h .kind-known) (h .in-place)
       (h .run-sound) (h .in-order) (h .by-itself)
 
-  pub tested-passes : (k : ℕ) (b : Before) (rs : List Record) → tested t i k b rs ≡ Passed → PassAll b rs
+  pub tested-passes : (k : ℕ) (b : Before) (rs : List Record) → tested t i k b rs ≡ Passed → PassAll t i b rs
   unfolding tested
   tested-passes k b [] e = tt
   tested-passes k b (r ∷ rs) e =
@@ -68,15 +56,15 @@ module _ {A : Type 0} (t : Forest A) (i : Table) where
       let w = then-passed (test (eqb n 0) n k 0) (tested t i (suc k) (After r) rs) e in
       (passes b r (eqb-true n 0 (test-true (eqb n 0) n k 0 (w .0))), tested-passes (suc k) (After r) rs (w .1))
 
-  pub passes-tested : (k : ℕ) (b : Before) (rs : List Record) → PassAll b rs → tested t i k b rs ≡ Passed
+  pub passes-tested : (k : ℕ) (b : Before) (rs : List Record) → PassAll t i b rs → tested t i k b rs ≡ Passed
   unfolding tested
   passes-tested k b [] h = refl
   passes-tested k b (r ∷ rs) h = rw (none-failing b r (h .0)) (passes-tested (suc k) (After r) rs (h .1))
 
-  pub all-located : (b : Before) (rs : List Record) → PassAll b rs → All (λ r. T (located t r)) rs
+  pub all-located : (b : Before) (rs : List Record) → PassAll t i b rs → All (λ r. T (located t r)) rs
   all-located b [] h = tt
   all-located b (r ∷ rs) h = (h .0 .in-place, all-located (After r) rs (h .1))
 
-  pub all-ordered : (b : Before) (rs : List Record) → PassAll b rs → InOrder b rs
+  pub all-ordered : (b : Before) (rs : List Record) → PassAll t i b rs → InOrder b rs
   all-ordered b [] h = tt
   all-ordered b (r ∷ rs) h = (h .0 .in-order, h .0 .by-itself, all-ordered (After r) rs (h .1))

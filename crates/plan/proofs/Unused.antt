@@ -4,24 +4,15 @@
 use Prim.Native.Nat.{ℕ}
 use native.Mathlib.Omega.{arith}
 use mathlib.Core.Path.{_≡_, refl, sym, _∙_}
-use mathlib.Core.Bool.{Bool, true, false, not, _||_}
+use mathlib.Core.Bool.{Bool, true, false, _||_}
 use lib.Dec.{T, leb, leb→le}
 use Rattle.plan.specs.declared.Record.{Record}
 use Rattle.plan.specs.declared.Before.{Before}
 use Rattle.plan.specs.declared.Before.the-variants.{Nothing, After}
 use Rattle.plan.specs.Tree.{Forest}
 use Rattle.plan.specs.Table.{Table}
-use Rattle.plan.specs.Records.{isInsert, isRename, isReplace, change, known, located, runs, follows, alone, failing}
+use Rattle.plan.specs.Records.{isInsert, isRename, isReplace, change, known, located, runs, follows, alone, failing, Alike, Unread}
 use Rattle.plan.proofs.Kit.{T-of, T-and, by-place}
-
--- two records of one kind that agree in what it uses: all use the location, an insert the parent, an insert and a
--- replace the run, a rename the value; a kind that is none of the four uses nothing
-pub record Alike (r s : Record) : Type 0 where
-  pub kind : r .kind ≡ s .kind
-  pub location : T (known r) → r .location ≡ s .location
-  pub parent : T (isInsert r) → r .parent ≡ s .parent
-  pub from : T (isInsert r || isReplace r) → r .from ≡ s .from
-  pub value : T (isRename r) → r .value ≡ s .value
 
 by-flag : {P : Type 0} (m : Bool) → (m ≡ true → P) → (m ≡ false → P) → P
 by-flag true f g = f refl
@@ -110,12 +101,6 @@ module _ (r s : Record) (h : Alike r s) where
       → failing t i (After r) x ≡ failing t i (After s) x
   unfolding failing
   behind-failing t i k x = rw (order-behind k x, alone-behind k x)
-
--- the record itself and the record behind it are tested alike, and it means the same
-pub record Unread {A : Type 0} (t : Forest A) (i : Table) (r s : Record) : Type 0 where
-  pub its-tests : (b : Before) → failing t i b r ≡ failing t i b s
-  pub next-tests : T (known r) → (x : Record) → failing t i (After r) x ≡ failing t i (After s) x
-  pub its-meaning : T (known r) → (k : ℕ) → change i k r ≡ change i k s
 
 pub unused-fields : {A : Type 0} (t : Forest A) (i : Table) (r s : Record) → Alike r s → Unread t i r s
 unused-fields t i r s h =

@@ -1,6 +1,7 @@
 -- The calls: the published tests in their order, and what an accepted call writes.
 -- Assumes nothing.
 use Prim.Native.Nat.{ℕ, suc}
+use mathlib.Core.Path.{_≡_}
 use mathlib.Core.Bool.{Bool, true, false, _&&_}
 use mathlib.Core.List.{List, [], _∷_, _++_}
 use lib.Dec.{leb, eqb}
@@ -11,12 +12,15 @@ use Rattle.plan.specs.declared.Before.{Before}
 use Rattle.plan.specs.declared.Before.the-variants.{Nothing, After}
 use Rattle.plan.specs.declared.Verdict.{Verdict}
 use Rattle.plan.specs.declared.Verdict.the-variants.{Passed, Failed}
+use Rattle.plan.specs.declared.Judgement.{Judgement}
+use Rattle.plan.specs.declared.Judgement.the-variants.{Needs, Refused}
 use Rattle.plan.specs.Answer.{accepted, refused}
 use Rattle.plan.specs.Tree.{Forest, count}
 use Rattle.plan.specs.Table.{Table, table, even, sound, mostRows}
-use Rattle.plan.specs.Change.{meaning}
-use Rattle.plan.specs.Paint.{old, Painted, plan}
+use Rattle.plan.specs.Change.{Change, meaning, kept}
+use Rattle.plan.specs.Paint.{old, Painted, plan, written}
 use Rattle.plan.specs.Records.{changes, failing}
+use Rattle.plan.specs.Lent.{Lent, level, list}
 
 -- go on with the next tests if these passed
 abbrev pub then : Verdict → Verdict → Verdict
@@ -36,6 +40,10 @@ tested t i k b (r ∷ rs) =
 -- the painted tree that a list turns the table's tree into
 unfoldable pub result : Table → Table → List Record → Forest Painted
 result t i l = meaning (changes i 0 l) (plan old t)
+
+-- the changes of a list that are kept
+abbrev pub keptOf : (t i : Table) → List Record → List (Change Painted)
+keptOf t i l = kept (plan old t) [] (changes i 0 l)
 
 abbrev pub mostRecords : ℕ
 mostRecords = 1024
@@ -70,3 +78,24 @@ over t u =
 abbrev pub held : Verdict → Table → Table → Table
 held Passed t u = over t u
 held (Failed number place count) t u = u
+
+-- a bulk or single call is done: a list l, of even columns or not, on the table t with the insertions i. a is the
+-- answer, and the new columns u became w
+pub record Done (evens : Bool) (t i : Table) (l : List Record) (u : Table) (a : Answer) (w : Table) : Type 0 where
+  pub answered : a ≡ answer (bulk evens t i l u) (count (result t i l))
+  pub columns : w ≡ held (bulk evens t i l u) (written (result t i l)) u
+
+-- ---- the judgement alone: tests 1 to 9, and the rows needed
+abbrev pub judgement : Verdict → (rows : ℕ) → Judgement
+judgement Passed rows = Needs rows
+judgement (Failed number place count) rows = Refused number place count
+
+abbrev pub publishedOf : Bool → Table → Table → List Record → Judgement
+publishedOf evens t i l = judgement (judged evens t i l) (count (result t i l))
+
+-- of a list lent as columns: test 1, and the judgement
+abbrev pub evens : Table → Table → Lent → Bool
+evens t i l = level l && (even t && even i)
+
+abbrev pub published : Table → Table → Lent → Judgement
+published t i l = publishedOf (evens t i l) t i (list l)

@@ -3,7 +3,7 @@
 use Prim.Native.Nat.{ℕ, zero, suc, _+_, _-_}
 use mathlib.Core.Bool.{Bool, true, false, cond, _&&_, _||_}
 use mathlib.Core.List.{List, [], _∷_}
-use lib.Dec.{leb, ltb, eqb}
+use lib.Dec.{T, leb, ltb, eqb}
 use lib.ListN.{getD}
 use Rattle.plan.specs.Tree.{Forest, none, tree, count, sizes, _⊕_, from, at, children}
 
@@ -59,6 +59,16 @@ module _ {A : Type 0} where
   meaning [] t = t
   meaning (c ∷ cs) t = single c (meaning cs t)
 
+  -- is it a legal change of this tree: does its row exist, and is its place open there?
+  unfoldable pub legal : Forest A → Change A → Bool
+  legal t (insert p q s) = ltb q (count t) && openPlace t p q
+  legal t (act p x) = ltb p (count t)
+
+  -- each change of a list is, of the tree that those behind it lead to
+  abbrev pub AllLegal : List (Change A) → Forest A → Type 0
+  AllLegal [] t = Unit {0}
+  AllLegal (c ∷ cs) t = T (legal (meaning cs t) c) × AllLegal cs t
+
   -- where it is made
   abbrev pub location : Change A → ℕ
   location (insert p q s) = p
@@ -74,6 +84,11 @@ module _ {A : Type 0} where
   abbrev pub lost : (p e : ℕ) → Change A → Bool
   lost p e (insert p′ q s) = leb p q && ltb q e
   lost p e (act p′ x) = ltb p p′ && ltb p′ e
+
+  -- the list behind the changes that are lost with the rows from b up to e
+  unfoldable pub skip : (b e : ℕ) → List (Change A) → List (Change A)
+  skip b e [] = []
+  skip b e (c ∷ cs) = cond (lost b e c) (skip b e cs) (c ∷ cs)
 
   -- does the change c make the later change d vain?
   abbrev pub vain : Forest A → Change A → Change A → Bool

@@ -1,9 +1,10 @@
 -- Records: what each means, and the published tests 4 to 8 of each.
 -- Assumes nothing.
 use Prim.Native.Nat.{ℕ, suc, _+_}
+use mathlib.Core.Path.{_≡_}
 use mathlib.Core.Bool.{Bool, true, cond, _&&_, _||_, not}
 use mathlib.Core.List.{List, [], _∷_}
-use lib.Dec.{leb, ltb, eqb}
+use lib.Dec.{T, leb, ltb, eqb}
 use lib.ListN.{length, getD}
 use Rattle.plan.specs.declared.Record.{Record}
 use Rattle.plan.specs.declared.Before.{Before}
@@ -77,3 +78,38 @@ failing t i b r =
     (cond (not (runs i r)) 6
     (cond (not (follows b r)) 7
     (cond (not (alone b r)) 8 0))))
+
+-- all of a list
+abbrev pub All : {C : Type 0} → (C → Type 0) → List C → Type 0
+All P [] = Unit {0}
+All P (c ∷ cs) = P c × All P cs
+
+module _ {A : Type 0} (t : Forest A) (i : Table) where
+  -- a record behind b passes
+  pub record Passes (b : Before) (r : Record) : Type 0 where
+    pub kind-known : T (known r)
+    pub in-place : T (located t r)
+    pub run-sound : T (runs i r)
+    pub in-order : T (follows b r)
+    pub by-itself : T (alone b r)
+
+  -- all records of a list do
+  abbrev pub PassAll : Before → List Record → Type 0
+  PassAll b [] = Unit {0}
+  PassAll b (r ∷ rs) = Passes b r × PassAll (After r) rs
+
+-- ---- what a kind doesn't use is not read
+-- two records of one kind that agree in what it uses: all use the location, an insert the parent, an insert and a
+-- replace the run, a rename the value; a kind that is none of the four uses nothing
+pub record Alike (r s : Record) : Type 0 where
+  pub kind : r .kind ≡ s .kind
+  pub location : T (known r) → r .location ≡ s .location
+  pub parent : T (isInsert r) → r .parent ≡ s .parent
+  pub from : T (isInsert r || isReplace r) → r .from ≡ s .from
+  pub value : T (isRename r) → r .value ≡ s .value
+
+-- the record itself and the record behind it are tested alike, and it means the same
+pub record Unread {A : Type 0} (t : Forest A) (i : Table) (r s : Record) : Type 0 where
+  pub its-tests : (b : Before) → failing t i b r ≡ failing t i b s
+  pub next-tests : T (known r) → (x : Record) → failing t i (After r) x ≡ failing t i (After s) x
+  pub its-meaning : T (known r) → (k : ℕ) → change i k r ≡ change i k s

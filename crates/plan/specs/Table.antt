@@ -1,7 +1,8 @@
 -- A table: three columns of numbers. What table a tree is written as, what forest a table spells, which tables are
 -- sound.
 -- Assumes nothing.
-use Prim.Native.Nat.{ℕ, zero, suc, _-_}
+use Prim.Native.Nat.{ℕ, zero, suc, _-_, _≤_}
+use mathlib.Core.Path.{_≡_}
 use mathlib.Core.Bool.{Bool, true, false, _&&_}
 use mathlib.Core.List.{List, [], _∷_}
 use lib.Dec.{leb, eqb}
@@ -58,6 +59,16 @@ mostRows = 65535
 
 unfoldable pub sound : Table → Bool
 sound t = let f = spelled (t .size) (t .value) in leb (count f) mostRows && (isTree f && sameTable t (tableOf f))
+
+-- t is the table of the tree with root label and kids, of at most 65,535 rows
+pub record TreeOf (t : Table) : Type 0 where
+  pub root : ℕ
+  pub kids : Forest ℕ
+  pub is-table : t ≡ tableOf (tree root kids none)
+  pub few : suc (count kids) ≤ mostRows
+
+abbrev pub tree-of : {t : Table} → TreeOf t → Forest ℕ
+tree-of h = tree (h .root) (h .kids) none
 
 -- the run that starts at row f: as many rows as the size there says
 unfoldable pub run : Table → ℕ → Table

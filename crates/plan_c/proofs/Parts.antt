@@ -8,8 +8,8 @@ use Rattle.plan.specs.declared.Verdict.the-variants.{Passed, Failed}
 use Rattle.plan.specs.Table.{Table}
 use Rattle.plan.specs.Axes.{whole, subtreeTop, subtree}
 use Rattle.plan.proofs.Axes.{subtree-whole, subtree-failed}
-use Rattle.plan_c.specs.Handed.{partOf}
-use Rattle.plan_c.specs.declared.handed.PlanPart.{PlanPart}
+use Rattle.plan.specs.Handed.{partOf}
+use Rattle.plan.specs.declared.PlanPart.{PlanPart}
 
 -- what `plan_subtree` hands back, and that it tells the values of the subtree
 abbrev pub part : Table → ℕ → PlanPart

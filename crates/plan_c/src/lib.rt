@@ -1,27 +1,29 @@
-// The calls for C and for Rust, as `include/plan.h` declares them: each hands what it is given to the library, and
-// hands the library's answer back as plain numbers.
-use crate::handed::PlanBecame;
-use crate::handed::PlanPart;
-use crate::handed::PlanRow;
-use crate::handed::PlanStep;
-use crate::handed::PlanWalk;
-use crate::handed::PlanWas;
-use crate::handed::became_of;
-use crate::handed::new_row;
-use crate::handed::old_row;
-use crate::handed::part_of;
-use crate::handed::row_of;
-use crate::handed::step_of;
-use crate::handed::walk_of;
-use crate::handed::was_of;
+// The calls for C and for Rust, as `include/plan.h` declares them. A call on a list takes one record of the lent slice
+// after another to the functions that it shares with the call on columns; any other hands what it is given to the
+// library. The library's answer is handed back as plain numbers.
+use along::every_new;
+use along::every_old;
+use along::new_row;
+use along::old_row;
+use handed::became_of;
+use handed::part_of;
+use handed::row_of;
+use handed::step_of;
+use handed::walk_of;
+use handed::was_of;
 use plan::Answer;
+use plan::NewPre;
+use plan::OldPre;
+use plan::PlanBecame;
+use plan::PlanPart;
+use plan::PlanRow;
+use plan::PlanStep;
+use plan::PlanWalk;
+use plan::PlanWas;
 use plan::Record;
-use records::bulk;
-use records::map_new;
-use records::map_old;
-use records::new_to_old;
-use records::old_to_new;
+use records::judged;
 use refresh::single;
+use refresh::work;
 use table::axes::first_child;
 use table::axes::next_sibling;
 use table::axes::parent;
@@ -39,13 +41,11 @@ ghost use Rattle.plan.specs.Table.{table};
 ghost use Rattle.plan.specs.Paint.{origins};
 ghost use Rattle.plan.specs.Call.{result};
 ghost use Rattle.plan.specs.Mapping.{fate, originAt, queried};
-ghost use Rattle.mapping.specs.Told.{became, was};
-ghost use Rattle.columns.specs.Mapped.{places, OldDone, NewDone};
+ghost use Rattle.plan.specs.Mapping.{became, was};
+ghost use Rattle.plan.specs.Mapping.{places, OldDone, NewDone};
 ghost use Rattle.plan.specs.Axes.{soundness as soundnessOf, parent as parentOf, firstChild, nextSibling, subtreeTop, subtree as valuesOf, walkStart, step as stepAt};
-ghost use Rattle.refresh.specs.Done.{Done};
-ghost use Rattle.plan_c.specs.Handed.{rowOf, partOf, walkOf, stepOf, becameOf, wasOf};
-
-pub mod handed;
+ghost use Rattle.plan.specs.Call.{Done};
+ghost use Rattle.plan.specs.Handed.{rowOf, partOf, walkOf, stepOf, becameOf, wasOf};
 
 // Is the table sound?
 #[no_mangle]
@@ -171,18 +171,26 @@ pub extern "C" fn plan_bulk(
         let w = table (now (ndist .exit)) (now (nsize .exit)) (now (nvalue .exit)) in
         Done true t i (now (list .entry)) u a w) ⌝ }
 {
-    bulk(
-        list,
-        dist,
-        size,
-        value,
-        idist,
-        isize,
-        ivalue,
-        ndist,
-        nsize,
-        nvalue,
-    )
+    let j = judged(list, dist, size, value, idist, isize, ivalue);
+    let mut s = work::begin(j, value, ndist, nsize, nvalue);
+    let mut i = 0;
+    while i < list.len() {
+        s = work::next(
+            s,
+            list[i],
+            dist,
+            size,
+            value,
+            idist,
+            isize,
+            ivalue,
+            ndist,
+            nsize,
+            nvalue,
+        );
+        i = i + 1;
+    }
+    work::end(s, dist, size, value, ndist, nsize, nvalue)
 }
 
 // What a list makes of an old row.
@@ -203,9 +211,15 @@ pub extern "C" fn plan_old_to_new(
         let v = queried true t i (now (list .entry)) (length (t .size)) row in
         a ≡ becameOf (became v (fate (origins (result t i (now (list .entry)))) 0 row))) ⌝ }
 {
-    let old = old_row(row);
-    let b = old_to_new(list, dist, size, value, idist, isize, ivalue, old);
-    became_of(b)
+    let old = OldPre(row);
+    let j = judged(list, dist, size, value, idist, isize, ivalue);
+    let mut w = old_row::begin(j, size.len(), old);
+    let mut i = 0;
+    while i < list.len() {
+        w = old_row::next(w, list[i], size, isize, old);
+        i = i + 1;
+    }
+    became_of(old_row::end(w, old))
 }
 
 // Which row a new row was.
@@ -227,9 +241,15 @@ pub extern "C" fn plan_new_to_old(
         let v = queried true t i (now (list .entry)) (count f) row in
         a ≡ wasOf (was v (originAt (origins f) row))) ⌝ }
 {
-    let new = new_row(row);
-    let w = new_to_old(list, dist, size, value, idist, isize, ivalue, new);
-    was_of(w)
+    let new = NewPre(row);
+    let j = judged(list, dist, size, value, idist, isize, ivalue);
+    let mut w = new_row::begin(j, new);
+    let mut i = 0;
+    while i < list.len() {
+        w = new_row::next(w, list[i], size, isize, new);
+        i = i + 1;
+    }
+    was_of(new_row::end(w, new))
 }
 
 // For every old row its new number, or that it is gone.
@@ -249,7 +269,14 @@ pub extern "C" fn plan_map_old(
         let i = table (now (idist .entry)) (now (isize .entry)) (now (ivalue .entry)) in
         OldDone true t i (now (list .entry)) (now (number .entry)) a (now (number .exit))) ⌝ }
 {
-    map_old(list, dist, size, value, idist, isize, ivalue, number)
+    let j = judged(list, dist, size, value, idist, isize, ivalue);
+    let mut w = every_old::begin(j, size.len(), number);
+    let mut i = 0;
+    while i < list.len() {
+        w = every_old::next(w, list[i], size, isize, number);
+        i = i + 1;
+    }
+    every_old::end(w, size, number)
 }
 
 // For every new row where it comes from.
@@ -271,5 +298,12 @@ pub extern "C" fn plan_map_new(
         let u = places (now (records .entry)) (now (rows .entry)) in
         NewDone true t i (now (list .entry)) u a (places (now (records .exit)) (now (rows .exit)))) ⌝ }
 {
-    map_new(list, dist, size, value, idist, isize, ivalue, records, rows)
+    let j = judged(list, dist, size, value, idist, isize, ivalue);
+    let mut w = every_new::begin(j, records, rows);
+    let mut i = 0;
+    while i < list.len() {
+        w = every_new::next(w, list[i], size, isize, records, rows);
+        i = i + 1;
+    }
+    every_new::end(w, size, records, rows)
 }

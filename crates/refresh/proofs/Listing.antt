@@ -2,20 +2,20 @@
 -- Assumes nothing.
 use Prim.Native.Nat.{ℕ, _+_, _-_, _≤_, _<_}
 use mathlib.Core.Path.{_≡_, refl, _∙_, subst}
-use mathlib.Core.Bool.{Bool, true, false}
-use mathlib.Core.List.{List, [], _∷_}
+use mathlib.Core.Bool.{true, false}
+use mathlib.Core.List.{[]}
 use lib.ListN.{length}
 use Rattle.plan.specs.declared.Record.{Record}
 use Rattle.plan.specs.declared.Answer.{Answer}
 use Rattle.plan.specs.Answer.{refused}
-use Rattle.plan.specs.Table.{Table, table}
+use Rattle.plan.specs.Table.{Table}
 use Rattle.plan.specs.Call.{judged, bulk}
 use Rattle.plan.specs.Lent.{Lent, level, recordAt, listed, list}
-use Rattle.judge.specs.declared.Judgement.{Judgement}
-use Rattle.judge.specs.Judgement.{publishedOf, published}
+use Rattle.plan.specs.declared.Judgement.{Judgement}
+use Rattle.plan.specs.Call.{published}
 use Rattle.judge.proofs.Listing.{listed-next, listed-end, listed-all}
 use Rattle.refresh.specs.declared.work.Work.{Work}
-use Rattle.refresh.specs.Done.{Done}
+use Rattle.plan.specs.Call.{Done}
 use Rattle.refresh.specs.Underway.{On, Judged, Begun, Next, Taken, Last, Finished}
 
 -- the list's own columns differ in length

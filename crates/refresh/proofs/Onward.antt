@@ -10,18 +10,19 @@ use Rattle.plan.specs.declared.Record.{Record}
 use Rattle.plan.specs.declared.Answer.{Answer}
 use Rattle.plan.specs.Answer.{accepted, refused}
 use Rattle.plan.specs.Table.{Table, table, even}
-use Rattle.plan.proofs.Stretch.{Room}
-use Rattle.plan.proofs.MachineTable.{tall-tree}
-use Rattle.judge.specs.declared.Judgement.{Judgement}
-use Rattle.judge.specs.declared.Judgement.the-variants.{Needs, Refused as RefusedSo}
-use Rattle.moves.specs.declared.Cursor.{Cursor}
-use Rattle.moves.specs.Written.{cursor, rowed}
+use Rattle.plan.specs.Way.{stand}
+use Rattle.pass_moves.specs.Rows.{Room}
+use Rattle.pass_moves.proofs.Rows.{tall-tree}
+use Rattle.plan.specs.declared.Judgement.{Judgement}
+use Rattle.plan.specs.declared.Judgement.the-variants.{Needs, Refused as RefusedSo}
+use Rattle.pass_moves.specs.declared.Cursor.{Cursor}
+use Rattle.pass_moves.specs.Written.{cursor, rowed}
 use Rattle.pass.specs.Underway as pass
 use Rattle.pass.proofs.Given.{tree-of, root-room}
 use Rattle.pass.proofs.Begun.{underway-begun}
 use Rattle.refresh.specs.declared.work.Work.{Work}
 use Rattle.refresh.specs.declared.work.Work.the-variants.{Going, Refused}
-use Rattle.refresh.specs.Underway.{Along, On, Stage, Judged, Begun, Next, Taken, Last, Finished}
+use Rattle.refresh.specs.Underway.{Stage, Judged, Begun, Next, Taken, Last, Finished}
 use Rattle.refresh.proofs.Settling.{done-uneven, done-refused, done-short, given, all-passed, done-written}
 
 module _ {value : List ℕ} {j : Judgement} (u : Table) where
@@ -59,8 +60,8 @@ module _ {value : List ℕ} {j : Judgement} (u : Table) where
             root-room (given true (table (h .dist) (h .size) value) (h .insertions) (h .list) u e j (h .judged) n g
             fits)
 
-        pub begun-going : {v : Table} {c : Cursor} → c ≡ cursor 1 1 0 0 0 0 → v ≡ rowed u 0 1 0 (getD value 0 0)
-            → Begun value j u v (Going c)
+        pub begun-going : {v : Table} {c : Cursor} → c ≡ cursor (stand 1 1 0 0) 0 0 0
+            → v ≡ rowed u 0 1 0 (getD value 0 0) → Begun value j u v (Going c)
         begun-going at written =
             record {
               whole = λ dist size i l k.

@@ -5,7 +5,7 @@ use native.Mathlib.Omega.{arith}
 use mathlib.Core.Path.{_≡_, refl, sym, _∙_}
 use mathlib.Core.Bool.{Bool, true, false, _&&_}
 use mathlib.Core.List.{List, [], _∷_}
-use lib.Dec.{leb, eqb}
+use lib.Dec.{leb}
 use lib.ListN.{length}
 use borrow.Author.Tests.{le-leb, lt-leb}
 use Rattle.plan.specs.declared.Record.{Record}
@@ -19,12 +19,12 @@ use Rattle.plan.specs.Call.{then, test, result, judged, bulk}
 use Rattle.plan.specs.Lent.{lent, level, listed, list}
 use Rattle.plan.proofs.Kit.{T-of, and-false}
 use Rattle.plan.proofs.Judged.{Accepted, accepted-judged}
-use Rattle.judge.specs.declared.Judgement.{Judgement}
-use Rattle.judge.specs.declared.Judgement.the-variants.{Needs, Refused}
-use Rattle.judge.specs.Judgement.{publishedOf}
-use Rattle.judge.proofs.Unique.{needs-told, refused-told}
+use Rattle.plan.specs.declared.Judgement.{Judgement}
+use Rattle.plan.specs.declared.Judgement.the-variants.{Needs, Refused}
+use Rattle.plan.specs.Call.{publishedOf}
+use Rattle.judge.proofs.Told.{needs-told, refused-told}
 use Rattle.pass.specs.Asked.{Given, Answered}
-use Rattle.refresh.specs.Done.{Done}
+use Rattle.plan.specs.Call.{Done}
 
 and-last : (x y z : Bool) → z ≡ true → (x && (y && z)) ≡ (x && y)
 and-last true true z e = e
@@ -95,12 +95,6 @@ module _ (evens : Bool) (t i : Table) (l : List Record) (u : Table) where
   pub done-written : verdict ≡ Passed → (m : ℕ) (b : Answer) (w : Table) → Answered t i l u w m → b ≡ accepted m
       → Done evens t i l u b w
   done-written v m b w q o = record { answered = rw (v, o, q .rows); columns = rw v (q .columns) }
-
--- the test of the new columns is `even`
-pub new-even : (b : Bool) (u : Table)
-    → b ≡ (eqb (length (u .dist)) (length (u .size)) && eqb (length (u .value)) (length (u .size))) → b ≡ even u
-unfolding even
-new-even b u e = e
 
 -- a list of one record, as columns of one row
 pub done-single : (t i : Table) (r : Record) (u : Table) (a : Answer) (w : Table)

@@ -1,2 +1,2 @@
-pub mod Done
+-- What the contracts of the work on one record cite.
 pub mod Underway

@@ -9,13 +9,13 @@ use Rattle.plan.specs.declared.Answer.{Answer}
 use Rattle.plan.specs.declared.Verdict.the-variants.{Passed}
 use Rattle.plan.specs.Table.{Table, table, even}
 use Rattle.plan.specs.Call.{bulk}
-use Rattle.judge.specs.declared.Judgement.{Judgement}
-use Rattle.judge.specs.Judgement.{publishedOf}
-use Rattle.moves.specs.declared.Cursor.{Cursor}
+use Rattle.plan.specs.declared.Judgement.{Judgement}
+use Rattle.plan.specs.Call.{publishedOf}
+use Rattle.pass_moves.specs.declared.Cursor.{Cursor}
 use Rattle.pass.specs.Underway.{Underway}
 use Rattle.refresh.specs.declared.work.Work.{Work}
 use Rattle.refresh.specs.declared.work.Work.the-variants.{Going, Refused}
-use Rattle.refresh.specs.Done.{Done}
+use Rattle.plan.specs.Call.{Done}
 
 -- all tests passed, and the pass over the list l into the columns w has come to u and c, with the records rs left
 pub record Along (t i : Table) (l : List Record) (w u : Table) (c : Cursor) (rs : List Record) : Type 0 where

@@ -3,15 +3,16 @@ use crate::work::begin;
 use crate::work::end;
 use crate::work::next;
 use judge::judged;
-use judge::list::is_level;
 use judge::list::record_at;
+use judge::list::test_level;
 use plan::Answer;
 use plan::Record;
+use plan::Verdict;
 ghost use mathlib.Core.Bool.{true};
 ghost use mathlib.Core.List.{[], _∷_};
 ghost use Rattle.plan.specs.Table.{table};
 ghost use Rattle.plan.specs.Lent.{lent, level, list};
-ghost use Rattle.refresh.specs.Done.{Done};
+ghost use Rattle.plan.specs.Call.{Done};
 
 pub mod work;
 
@@ -42,9 +43,9 @@ pub fn bulk(
         let w = table (now (ndist .exit)) (now (nsize .exit)) (now (nvalue .exit)) in
         Done (level l) t i (list l) u a w) ⌝ }
 {
-    if !is_level(kind, location, parent, from, values) {
+    let Verdict::Passed = test_level(kind, location, parent, from, values) else {
         return Answer::refused(1, 0, 0);
-    }
+    };
     let j = judged(
         dist,
         size,

@@ -1,13 +1,15 @@
 // The bulk call one record at a time: test 1 of the new columns, the judgement and test 10 before the first record,
 // then the pass. Whoever has the records hands them over in their order. Refused, nothing is written.
 // In the contracts t is the table, i the insertions, u the new columns before, and v after.
-use judge::Judgement;
-use judge::long;
-use moves::Cursor;
+use judge::test_room;
 use pass::finish;
 use pass::one;
+use pass_moves::Cursor;
 use plan::Answer;
+use plan::Judgement;
 use plan::Record;
+use plan::Verdict;
+use table::test_even;
 ghost use Rattle.plan.specs.Table.{table};
 ghost use Rattle.refresh.specs.Underway.{Judged, Begun, Next, Taken, Last, Finished};
 
@@ -31,18 +33,18 @@ pub fn begin(
         let v = table (now (ndist .exit)) (now (nsize .exit)) (now (nvalue .exit)) in
         Begun (now (value .entry)) j u v s) ⌝ }
 {
-    if !long(ndist, nvalue, nsize.len()) {
+    let Verdict::Passed = test_even(ndist, nsize, nvalue) else {
         return Work::Refused(Answer::refused(1, 0, 0));
-    }
+    };
     match j {
         Judgement::Refused(number, place, count) => {
             let a = Answer::refused(number, place, count);
             Work::Refused(a)
         }
         Judgement::Needs(n) => {
-            if n > nsize.len() as u64 {
+            let Verdict::Passed = test_room(n, nsize.len()) else {
                 return Work::Refused(Answer::refused(10, 0, n));
-            }
+            };
             Work::Going(pass::begin(value[0], ndist, nsize, nvalue))
         }
     }

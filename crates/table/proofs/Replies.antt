@@ -9,8 +9,8 @@ use lib.ListN.{length, take, drop, List·getD-eq-default}
 use Rattle.plan.specs.Table.{table}
 use Rattle.plan.specs.Axes.{cell, row, nothing, refuse, parent, firstChild, nextSibling, subtreeTop, subtree, walkStart, child, stopped, step}
 use Rattle.plan.proofs.Tests.{reply-passed, reply-failed, whole-small, whole-past, whole-of, parent-root, parent-small, parent-past, parent-of, sibling-small, sibling-long, sibling-past, sibling-of, step-small, step-past, step-child}
-use Rattle.table.specs.declared.axes.Found.the-variants.{Row}
-use Rattle.table.specs.Answers.{started}
+use Rattle.plan.specs.declared.Found.the-variants.{Row}
+use Rattle.plan.specs.Axes.{started}
 use Rattle.table.proofs.Told.{RowIn, TopIn, ParentIn}
 
 -- ---- a row x of columns of one length, with the distance d

@@ -4,7 +4,6 @@ use Prim.Native.Nat.{ℕ, _+_, _≤_, _<_}
 use native.Mathlib.Omega.{arith}
 use mathlib.Core.Path.{_≡_, refl, sym, ap, _∙_}
 use mathlib.Core.Logic.{⊎-elim}
-use mathlib.Core.Bool.{Bool, true, false}
 use mathlib.Core.List.{List, [], _∷_}
 use lib.ListN.{length}
 use denote.Enum.Declared.{tagOf}
@@ -14,27 +13,10 @@ use Rattle.plan.specs.declared.Verdict.the-variants.{Passed, Failed}
 use Rattle.plan.specs.Table.{table}
 use Rattle.plan.specs.Axes.{cell, row, refuse, reply, asked, whole, parent, firstChild, nextSibling, subtreeTop, subtree, walkStart}
 use Rattle.plan.proofs.Tests.{reply-row, row-same, even-lengths, asked-passed, whole-passed, parent-row}
-use Rattle.table.specs.declared.axes.Found.{Found}
-use Rattle.table.specs.declared.axes.Found.the-variants.{Row, Nothing, Refused}
-use Rattle.table.specs.declared.Tested.{Tested}
-use Rattle.table.specs.declared.Tested.the-variants.{Rows, Failed}
-use Rattle.table.specs.Answers.{rowsWhere, told, askedRow, started}
-use Rattle.table.proofs.axes.Found.{the-type}
-
--- ---- a test of columns
-pub rows-told : (b : Bool) (n m : ℕ) (a : Tested) → a ≡ rowsWhere b n → a ≡ Rows m → (b ≡ true) × (m ≡ n)
-rows-told true n m a h e = (refl, cc)
-rows-told false n m a h e = let z : _≡_ {A = ℕ} 0 1 = cc in absurd (omega arith)
-
-pub failed-told : (b : Bool) (n : ℕ) (a : Tested) → a ≡ rowsWhere b n → a ≡ Failed → b ≡ false
-failed-told true n a h e = let z : _≡_ {A = ℕ} 0 1 = cc in absurd (omega arith)
-failed-told false n a h e = refl
-
-pub rows-where : (b : Bool) (n : ℕ) → b ≡ true → Rows n ≡ rowsWhere b n
-rows-where b n e = rw e
-
-pub failed-where : (b : Bool) (n : ℕ) → b ≡ false → Failed ≡ rowsWhere b n
-failed-where b n e = rw e
+use Rattle.plan.specs.declared.Found.{Found}
+use Rattle.plan.specs.declared.Found.the-variants.{Row, Nothing, Refused}
+use Rattle.plan.specs.Axes.{told, askedRow, started}
+use Rattle.plan.proofs.Found.{the-type}
 
 -- ---- a call on a row
 -- the row x that was found is the row r that was asked about, in columns of one length

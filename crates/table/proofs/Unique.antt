@@ -8,14 +8,14 @@ use lib.ListN.{take}
 use lib.Seq.{take-take}
 use Rattle.plan.specs.Axes.{Reply, Start as Begin, Walked}
 use Rattle.plan.proofs.Kit.{by-place}
-use Rattle.table.specs.declared.axes.Found.{Found}
-use Rattle.table.specs.declared.axes.Found.the-variants.{Row, Nothing, Refused}
+use Rattle.plan.specs.declared.Found.{Found}
+use Rattle.plan.specs.declared.Found.the-variants.{Row, Nothing, Refused}
 use Rattle.table.specs.declared.climb.Shape.{Shape}
 use Rattle.table.specs.declared.climb.Shape.the-variants.{Tree, BadAt}
-use Rattle.table.specs.declared.walk.Start.{Start}
-use Rattle.table.specs.declared.walk.Walk.{Walk}
-use Rattle.table.specs.declared.walk.Walk.the-variants.{Child, Done, Refused as Stopped}
-use Rattle.table.specs.Answers.{told, started, walked}
+use Rattle.plan.specs.declared.Start.{Start}
+use Rattle.plan.specs.declared.Walk.{Walk}
+use Rattle.plan.specs.declared.Walk.the-variants.{Child, Done, Refused as Stopped}
+use Rattle.plan.specs.Axes.{told, started, walked}
 use Rattle.table.specs.Shape.{Shaped, Begun, Right}
 
 -- `soundness`, `is_sound` and `subtree`: an answer, a yes or no, and a list of values, each given by an equation

@@ -1,4 +1,3 @@
--- What the answers of the calls say (`Answers`), and what the contracts of inner functions cite (`Rows`, `Shape`).
-pub mod Answers
+-- What the contracts of inner functions cite: the rows one by one (`Rows`), and the shape of a table (`Shape`).
 pub mod Rows
 pub mod Shape

@@ -1,28 +1,22 @@
 // The axes: what stands around one row. They read raw columns, and answer for unsound tables too.
-use crate::Tested;
-use crate::even;
+use crate::test_even;
+use plan::Found;
+use plan::Verdict;
 use plan::wide;
 ghost use mathlib.Core.Path.{_≡_};
 ghost use Rattle.plan.specs.Table.{table};
 ghost use Rattle.plan.specs.Axes.{parent as parentOf, firstChild, nextSibling, subtreeTop, subtree as valuesOf};
-ghost use Rattle.table.specs.Answers.{told, askedRow};
-
-// What a call on a row answers: a row, none, or the number of the test that failed and the row at fault.
-pub enum Found {
-    Row(usize),
-    Nothing,
-    Refused(u32, u32),
-}
+ghost use Rattle.plan.specs.Axes.{told, askedRow};
 
 // Tests 1 and 11: the row asked about.
 fn asked(dist: &[u32], size: &[u32], value: &[u32], r: u32) -> Found
     ensures { λ f. ⌜ told f ≡ askedRow (table (now (dist .entry)) (now (size .entry)) (now (value .entry))) r ⌝ }
 {
-    let Tested::Rows(n) = even(dist, size, value) else {
+    let Verdict::Passed = test_even(dist, size, value) else {
         return Found::Refused(1, 0);
     };
     let x = wide(r);
-    if x >= n {
+    if x >= size.len() {
         return Found::Refused(11, r);
     }
     Found::Row(x)

@@ -1,10 +1,11 @@
 // The table: whether three lent columns are a tree's, what stands around a row, and the walk over a row's children.
 // Every call takes any columns: sound or not, of equal length or not, with any numbers in them.
 use plan::Answer;
+use plan::Verdict;
 use plan::wide;
 ghost use mathlib.Core.Path.{_≡_};
-ghost use Rattle.plan.specs.Table.{table};
-ghost use Rattle.table.specs.Answers.{evenRows};
+ghost use Rattle.plan.specs.Table.{table, even};
+ghost use Rattle.plan.specs.Call.{test};
 ghost use Rattle.table.specs.Rows.{Rooted, Says};
 
 pub mod axes;
@@ -12,24 +13,18 @@ pub mod climb;
 pub mod sound;
 pub mod walk;
 
-// What a test of whole columns answers: it passes, and the table has so many rows; or it fails.
-enum Tested {
-    Rows(usize),
-    Failed,
-}
-
-// Test 1: the three columns are equally long.
-fn even(dist: &[u32], size: &[u32], value: &[u32]) -> Tested
-    ensures { λ a. ⌜ a ≡ evenRows (table (now (dist .entry)) (now (size .entry)) (now (value .entry))) ⌝ }
+// Test 1: three columns are equally long.
+pub fn test_even(dist: &[u32], size: &[u32], value: &[u32]) -> Verdict
+    ensures { λ v. ⌜ v ≡ test (even (table (now (dist .entry)) (now (size .entry)) (now (value .entry)))) 1 0 0 ⌝ }
 {
     let n = size.len();
     if dist.len() != n {
-        return Tested::Failed;
+        return Verdict::Failed(1, 0, 0);
     }
     if value.len() != n {
-        return Tested::Failed;
+        return Verdict::Failed(1, 0, 0);
     }
-    Tested::Rows(n)
+    Verdict::Passed
 }
 
 // Are the columns equally long, with 1 to 65,535 rows, and is row 0 the root of them all?

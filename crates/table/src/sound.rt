@@ -1,14 +1,14 @@
 // The soundness call, by the sum test: in linear time, with no stack and no array. The values are never read.
-use crate::Tested;
-use crate::even;
 use crate::rooted;
+use crate::test_even;
 use plan::Answer;
+use plan::Verdict;
 use plan::wide;
 use std::num;
 ghost use mathlib.Core.Path.{_≡_};
 ghost use Rattle.plan.specs.Table.{table, sound as soundly};
 ghost use Rattle.plan.specs.Axes.{soundness as soundnessOf};
-ghost use Rattle.table.specs.Answers.{soundRows};
+ghost use Rattle.plan.specs.Call.{test};
 ghost use Rattle.table.specs.Rows.{Rooted, Says};
 ghost use Rattle.table.specs.Shape.{Shaped};
 
@@ -45,7 +45,7 @@ fn sums(dist: &[u32], size: &[u32]) -> bool
 pub fn is_sound(dist: &[u32], size: &[u32], value: &[u32]) -> bool
     ensures { λ b. ⌜ b ≡ soundly (table (now (dist .entry)) (now (size .entry)) (now (value .entry))) ⌝ }
 {
-    let Tested::Rows(_) = even(dist, size, value) else {
+    let Verdict::Passed = test_even(dist, size, value) else {
         return false;
     };
     if rooted(dist, size) {
@@ -55,13 +55,13 @@ pub fn is_sound(dist: &[u32], size: &[u32], value: &[u32]) -> bool
 }
 
 // Test 2: the table is sound.
-fn tree(dist: &[u32], size: &[u32], value: &[u32]) -> Tested
-    ensures { λ a. ⌜ a ≡ soundRows (table (now (dist .entry)) (now (size .entry)) (now (value .entry))) ⌝ }
+pub fn test_sound(dist: &[u32], size: &[u32], value: &[u32]) -> Verdict
+    ensures { λ v. ⌜ v ≡ test (soundly (table (now (dist .entry)) (now (size .entry)) (now (value .entry)))) 2 0 0 ⌝ }
 {
     if is_sound(dist, size, value) {
-        Tested::Rows(size.len())
+        Verdict::Passed
     } else {
-        Tested::Failed
+        Verdict::Failed(2, 0, 0)
     }
 }
 
@@ -69,11 +69,11 @@ fn tree(dist: &[u32], size: &[u32], value: &[u32]) -> Tested
 pub fn soundness(dist: &[u32], size: &[u32], value: &[u32]) -> Answer
     ensures { λ a. ⌜ a ≡ soundnessOf (table (now (dist .entry)) (now (size .entry)) (now (value .entry))) ⌝ }
 {
-    let Tested::Rows(_) = even(dist, size, value) else {
+    let Verdict::Passed = test_even(dist, size, value) else {
         return Answer::refused(1, 0, 0);
     };
-    let Tested::Rows(n) = tree(dist, size, value) else {
+    let Verdict::Passed = test_sound(dist, size, value) else {
         return Answer::refused(2, 0, 0);
     };
-    Answer::accepted(n as u64)
+    Answer::accepted(size.len() as u64)
 }

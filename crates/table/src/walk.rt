@@ -1,25 +1,13 @@
 // The walk over a row's children: where it starts, and its step, over a size column, a candidate and an end.
-use crate::axes::Found;
 use crate::axes::subtree_top;
+use plan::Found;
+use plan::Start;
+use plan::Walk;
 use plan::wide;
 ghost use mathlib.Core.Path.{_≡_};
 ghost use Rattle.plan.specs.Table.{table};
 ghost use Rattle.plan.specs.Axes.{walkStart, step as stepAt};
-ghost use Rattle.table.specs.Answers.{started, walked};
-
-// Where a walk starts: what its tests answer, the first candidate and the end. A refused one stands at its end.
-pub struct Start {
-    pub answer: Found,
-    pub next: usize,
-    pub end: usize,
-}
-
-// What a step answers: a child's row and the next candidate, none, or the test that failed and the candidate.
-pub enum Walk {
-    Child(usize, usize),
-    Done,
-    Refused(u32, usize),
-}
+ghost use Rattle.plan.specs.Axes.{started, walked};
 
 // The walk over the children of row r, at its start.
 pub fn start_walk(dist: &[u32], size: &[u32], value: &[u32], r: u32) -> Start

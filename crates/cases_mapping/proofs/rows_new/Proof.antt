@@ -10,55 +10,42 @@ Inv-loop kind location parent from values dist size value idist isize ivalue r�
 abbrev μ-loop : tie.MeasureT-loop
 μ-loop kind location parent from values dist size value idist isize ivalue r₀ r = 9 - r
 
--- src/main.rt:94:5
 loop-holds : tie.Need-loop-holds Inv-loop μ-loop
 loop-holds c = search needs
 
--- src/main.rt:96:13
 slice-aggregate-new-to-old : tie.Need-slice-aggregate-new-to-old Inv-loop μ-loop
 slice-aggregate-new-to-old c = search needs
 
--- src/main.rt:97:13
 slice-aggregate-new-to-old-2 : tie.Need-slice-aggregate-new-to-old-2 Inv-loop μ-loop
 slice-aggregate-new-to-old-2 c = search needs
 
--- src/main.rt:98:13
 slice-aggregate-new-to-old-3 : tie.Need-slice-aggregate-new-to-old-3 Inv-loop μ-loop
 slice-aggregate-new-to-old-3 c = search needs
 
--- src/main.rt:104:13
 slice-aggregate-new-to-old-4 : tie.Need-slice-aggregate-new-to-old-4 Inv-loop μ-loop
 slice-aggregate-new-to-old-4 c = search needs
 
--- src/main.rt:105:13
 slice-aggregate-new-to-old-5 : tie.Need-slice-aggregate-new-to-old-5 Inv-loop μ-loop
 slice-aggregate-new-to-old-5 c = search needs
 
--- src/main.rt:106:13
 slice-aggregate-new-to-old-6 : tie.Need-slice-aggregate-new-to-old-6 Inv-loop μ-loop
 slice-aggregate-new-to-old-6 c = search needs
 
--- src/main.rt:95:18
 new-to-old-requires : tie.Need-new-to-old-requires Inv-loop μ-loop
 new-to-old-requires c κs = search needs
 
--- src/main.rt:95:9
 tell-was-requires : tie.Need-tell-was-requires Inv-loop μ-loop
 tell-was-requires c κs = search needs
 
--- src/main.rt:109:9
 add-r : tie.Need-add-r Inv-loop μ-loop
 add-r c = search needs
 
--- src/main.rt:94:5
 loop-less : tie.Need-loop-less Inv-loop μ-loop
 loop-less c = search needs
 
--- src/main.rt:94:5
 loop-again : tie.Need-loop-again Inv-loop μ-loop
 loop-again c = search needs
 
--- src/main.rt:86:1
 returns : tie.Need-returns Inv-loop μ-loop
 returns c = search needs
 

@@ -10,55 +10,42 @@ Inv-loop kind location parent from values dist size value idist isize ivalue r�
 abbrev μ-loop : tie.MeasureT-loop
 μ-loop kind location parent from values dist size value idist isize ivalue r₀ r = 8 - r
 
--- src/main.rt:66:5
 loop-holds : tie.Need-loop-holds Inv-loop μ-loop
 loop-holds c = search needs
 
--- src/main.rt:68:13
 slice-aggregate-old-to-new : tie.Need-slice-aggregate-old-to-new Inv-loop μ-loop
 slice-aggregate-old-to-new c = search needs
 
--- src/main.rt:69:13
 slice-aggregate-old-to-new-2 : tie.Need-slice-aggregate-old-to-new-2 Inv-loop μ-loop
 slice-aggregate-old-to-new-2 c = search needs
 
--- src/main.rt:70:13
 slice-aggregate-old-to-new-3 : tie.Need-slice-aggregate-old-to-new-3 Inv-loop μ-loop
 slice-aggregate-old-to-new-3 c = search needs
 
--- src/main.rt:76:13
 slice-aggregate-old-to-new-4 : tie.Need-slice-aggregate-old-to-new-4 Inv-loop μ-loop
 slice-aggregate-old-to-new-4 c = search needs
 
--- src/main.rt:77:13
 slice-aggregate-old-to-new-5 : tie.Need-slice-aggregate-old-to-new-5 Inv-loop μ-loop
 slice-aggregate-old-to-new-5 c = search needs
 
--- src/main.rt:78:13
 slice-aggregate-old-to-new-6 : tie.Need-slice-aggregate-old-to-new-6 Inv-loop μ-loop
 slice-aggregate-old-to-new-6 c = search needs
 
--- src/main.rt:67:21
 old-to-new-requires : tie.Need-old-to-new-requires Inv-loop μ-loop
 old-to-new-requires c κs = search needs
 
--- src/main.rt:67:9
 tell-became-requires : tie.Need-tell-became-requires Inv-loop μ-loop
 tell-became-requires c κs = search needs
 
--- src/main.rt:81:9
 add-r : tie.Need-add-r Inv-loop μ-loop
 add-r c = search needs
 
--- src/main.rt:66:5
 loop-less : tie.Need-loop-less Inv-loop μ-loop
 loop-less c = search needs
 
--- src/main.rt:66:5
 loop-again : tie.Need-loop-again Inv-loop μ-loop
 loop-again c = search needs
 
--- src/main.rt:58:1
 returns : tie.Need-returns Inv-loop μ-loop
 returns c = search needs
 

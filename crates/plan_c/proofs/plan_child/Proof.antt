@@ -2,7 +2,7 @@
 use borrow.Author.Needs.{needs}
 use mathlib.Core.Path.{ap, _∙_}
 use Rattle.plan.specs.Axes.{Walked}
-use Rattle.plan_c.specs.Handed.{stepOf}
+use Rattle.plan.specs.Handed.{stepOf}
 use Rattle.plan_c.proofs.plan_child.Statement.{statement}
 use Rattle.plan_c.proofs.plan_child.Tie as tie
 

@@ -1,7 +1,7 @@
 -- `plan_c::plan_children` meets its contract.
 use borrow.Author.Needs.{needs}
 use mathlib.Core.Path.{ap, _∙_}
-use Rattle.plan_c.specs.Handed.{walkOf}
+use Rattle.plan.specs.Handed.{walkOf}
 use Rattle.plan_c.proofs.plan_children.Statement.{statement}
 use Rattle.plan_c.proofs.plan_children.Tie as tie
 

@@ -1,11 +1,11 @@
 -- `plan_c::plan_subtree` meets its contract.
 use borrow.Author.Needs.{needs}
-use mathlib.Core.Path.{ap, ap₂, _∙_}
+use mathlib.Core.Path.{ap₂, _∙_}
 use Prim.Native.Nat.{ℕ}
 use mathlib.Core.List.{List}
 use lib.ListN.{length}
 use Rattle.plan.specs.Axes.{Reply}
-use Rattle.plan_c.specs.Handed.{partOf}
+use Rattle.plan.specs.Handed.{partOf}
 use Rattle.plan_c.proofs.plan_subtree.Statement.{statement}
 use Rattle.plan_c.proofs.plan_subtree.Tie as tie
 

@@ -27,40 +27,28 @@ use types.Run.{look, look-raw, store, init, forget, stop, hop, fld, from, load, 
 use sound.WpLaws.{FmC, fmOf, WpFn-mono}
 use denote.RattleType.{flat}
 use denote.Laws.{Are, Ises}
-use denote.Builtin.{u32}
 use denote.Slice.{slice-vals}
 use denote.Index.{place-is}
-use denote.Signature.{plain, typesAt}
+use denote.Signature.{typesAt}
 use denote.Steps.{nothing}
 use denote.Triple.Statement.{Triple}
 use denote.Triple.Entry.{Args, Vals, onEntry}
 use denote.Triple.Spec.{Meets, tripleOf}
 use denote.Triple.Table.{entered, cited}
-use denote.Triple.Walked.{says, Stays, stay-none-slice, walkOf, goes-none-slice, Walks, ends-at, walked, walk-meets}
-use denote.Exit.{yes}
+use denote.Triple.Walked.{says, Stays, walkOf, Walks, ends-at, walked, walk-meets}
 use Rattle.plan.specs.declared.Record.{Record}
-use Rattle.plan.specs.Table.{Table, table, even}
-use Rattle.judge.specs.Judgement.{publishedOf}
+use Rattle.plan.specs.Table.{Table, even}
+use Rattle.plan.specs.Call.{publishedOf}
 use Rattle.judge.specs.Underway.{On, Begun, Next, Taken, Last, Finished}
-use Rattle.judge.proofs.Judgement as J
-use Rattle.judge.proofs.Judgement.Laws as J′
+use Rattle.plan.proofs.Judgement as J
 use Rattle.judge.proofs.exam.Exam as E
-use Rattle.judge.proofs.exam.Exam.Laws as E′
 use Rattle.records.proofs.Locals.{Places, env, cells, Dies, stores, free-all, operands}
-use Rattle.records.proofs.Columns.{_&_, Column, column, token, shared, each, picked, Shared, shares, unshares, lifetimes, parts, references, machine}
-use Rattle.records.proofs.Walk.{nth, below, offset-fits, next-fits, Data, ofEnum, ofUsize, ofRecord, Fine, slice-fits, list-tells, column-tells, Asks, has, calls, listed, Listed, opens-record, shuts-record, together, asunder, rest, Turn, Nearer, nearer-wf, first-on, last-on}
+use Rattle.records.proofs.Columns.{_&_, Column, token, shared, each, picked, Shared, shares, unshares, lifetimes, parts, references, machine}
+use Rattle.records.proofs.Seven.{seven-stay, seven-go, seven-vals, seven-tell, tableOf, insertionsOf, columnsOf}
+use Rattle.records.proofs.Walk.{nth, below, offset-fits, next-fits, Data, ofEnum, ofUsize, ofRecord, Fine, slice-fits, Asks, has, calls, listed, Listed, opens-record, shuts-record, together, asunder, rest, Turn, Nearer, nearer-wf, first-on, last-on}
 use Rattle.judge.proofs.exam.begin as begin
-use Rattle.judge.proofs.exam.begin.Symbol as begin-def
-use Rattle.judge.proofs.exam.begin.Symbol.{name as #begin}
-use Rattle.judge.proofs.exam.begin.Met as begin-thm
 use Rattle.judge.proofs.exam.next as next
-use Rattle.judge.proofs.exam.next.Symbol as next-def
-use Rattle.judge.proofs.exam.next.Symbol.{name as #next}
-use Rattle.judge.proofs.exam.next.Met as next-thm
 use Rattle.judge.proofs.exam.end as end
-use Rattle.judge.proofs.exam.end.Symbol as end-def
-use Rattle.judge.proofs.exam.end.Symbol.{name as #end}
-use Rattle.judge.proofs.exam.end.Met as end-thm
 use Rattle.records.proofs.judged.Key.{name as #judged}
 use Rattle.records.proofs.judged as fn
 use Rattle.records.proofs.judged.Statement as stated
@@ -69,17 +57,14 @@ use Rattle.records.proofs.judged.Code.Mir as body
 
 -- the answer
 abbrev Result : Data
-Result = ofEnum J.the-type J′.the-laws J′.the-plain tt
+Result = ofEnum J.the-type J.Laws.the-laws J.Laws.the-plain tt
 
 -- the state
 abbrev Exam : Data
-Exam = ofEnum E.the-type E′.the-laws E′.the-plain tt
+Exam = ofEnum E.the-type E.Laws.the-laws E.Laws.the-plain tt
 
 abbrev stayed : Stays (fn.ended .signature .params) (fn.ended .kept)
-stayed = stay-none-slice (0 ∷ []) tt (plain (λ _. ofRecord .row)) yes & stay-none-slice (1 ∷ []) tt (plain (λ _. u32))
-    yes & stay-none-slice (2 ∷ []) tt (plain (λ _. u32)) yes & stay-none-slice (3 ∷ []) tt (plain (λ _. u32)) yes &
-    stay-none-slice (4 ∷ []) tt (plain (λ _. u32)) yes & stay-none-slice (5 ∷ []) tt (plain (λ _. u32)) yes &
-    stay-none-slice (6 ∷ []) tt (plain (λ _. u32)) yes & tt
+stayed = seven-stay 0 tt
 
 module _ {M : Type 1} (𝓤 : URA M) (H : Heap 𝓤) (A : Atoms 𝓤) (W : Given 𝓤 H A) (mem : Memory → SProp 𝓤)
     (run : Routine → Fun 𝓤) (κs : Lfts 7) (qs : Shares 7) (a : Args fn.signature κs) where
@@ -87,37 +72,16 @@ module _ {M : Type 1} (𝓤 : URA M) (H : Heap 𝓤) (A : Atoms 𝓤) (W : Given
   abbrev l : List Record
   l = a .0 .now
 
-  abbrev dist : List ℕ
-  dist = a .1 .0 .now
-
-  abbrev size : List ℕ
-  size = a .1 .1 .0 .now
-
-  abbrev value : List ℕ
-  value = a .1 .1 .1 .0 .now
-
-  abbrev idist : List ℕ
-  idist = a .1 .1 .1 .1 .0 .now
-
-  abbrev isize : List ℕ
-  isize = a .1 .1 .1 .1 .1 .0 .now
-
-  abbrev ivalue : List ℕ
-  ivalue = a .1 .1 .1 .1 .1 .1 .0 .now
-
   -- the table and the insertions
   abbrev t : Table
-  t = table dist size value
+  t = tableOf a
 
   abbrev i : Table
-  i = table idist isize ivalue
+  i = insertionsOf a
 
   -- the shared columns
   abbrev lent : List Column
-  lent = column (κs .1 .0) (qs .1 .0) (a .1 .0) ∷ column (κs .1 .1 .0) (qs .1 .1 .0) (a .1 .1 .0) ∷ column
-      (κs .1 .1 .1 .0) (qs .1 .1 .1 .0) (a .1 .1 .1 .0) ∷ column (κs .1 .1 .1 .1 .0) (qs .1 .1 .1 .1 .0)
-      (a .1 .1 .1 .1 .0) ∷ column (κs .1 .1 .1 .1 .1 .0) (qs .1 .1 .1 .1 .1 .0) (a .1 .1 .1 .1 .1 .0) ∷ column
-      (κs .1 .1 .1 .1 .1 .1 .0) (qs .1 .1 .1 .1 .1 .1 .0) (a .1 .1 .1 .1 .1 .1 .0) ∷ []
+  lent = columnsOf a κs qs
 
   abbrev Loans : Unit {0} → List (Item 𝓤)
   Loans us = ‵ (Listed (κs .0) (qs .0) (a .0)) ∷ ‵ (Shared lent) ∷ []
@@ -194,10 +158,10 @@ module _ {M : Type 1} (𝓤 : URA M) (H : Heap 𝓤) (A : Atoms 𝓤) (W : Given
   )
 
   module _ (are : Are (typesAt (fn.signature .params) κs) (Ises (typesAt (fn.signature .params) κs)) a at)
-      (𝓣 : Tables 𝓤 H) (fm : FmC 𝓤 H (W .laws) (𝓣 .C)) (known-begin : Triple 𝓤 (𝓣 .C #begin)
+      (𝓣 : Tables 𝓤 H) (fm : FmC 𝓤 H (W .laws) (𝓣 .C)) (known-begin : Triple 𝓤 (𝓣 .C begin.Symbol.name)
       (Asks 𝓤 H A begin.ended (begin.clauses 𝓤 H A mem run)))
-      (known-next : Triple 𝓤 (𝓣 .C #next) (Asks 𝓤 H A next.ended (next.clauses 𝓤 H A mem run)))
-      (known-end : Triple 𝓤 (𝓣 .C #end) (Asks 𝓤 H A end.ended (end.clauses 𝓤 H A mem run))) where
+      (known-next : Triple 𝓤 (𝓣 .C next.Symbol.name) (Asks 𝓤 H A next.ended (next.clauses 𝓤 H A mem run)))
+      (known-end : Triple 𝓤 (𝓣 .C end.Symbol.name) (Asks 𝓤 H A end.ended (end.clauses 𝓤 H A mem run))) where
     -- the end: the answer, and all that was lent
     exits : (r : Result .row .Denot) (us : Unit {0}) → Fine Result r → Unit {0} → r ≡ publishedOf (even t && even i) t
         i l → ent 𝓤 (⋆ 𝓤 H A (Loans us)) (Post (Result .val r))
@@ -249,9 +213,10 @@ module _ {M : Type 1} (𝓤 : URA M) (H : Heap 𝓤) (A : Atoms 𝓤) (W : Given
           shuts-record ! tt (κs .0) (qs .0) (a .0) (st .i) share less $ move ! (1 ∷ []) $ shares ! lent takes-next $
           has ! ofRecord (nth l (st .i)) good $ fjoin ! $ has ! Exam (st .state) (st .good) $ fjoin ! $
           calls ! fm next.ended (next.clauses 𝓤 H A mem run) (to-next (st .state) (nth l (st .i))) known-next
-          (factI 𝓤 (Next dist size i (st .state) (nth l (st .i))) (emp 𝓤)
-          (record { value = value; list = l; rest = (rest (st .i + 1) l); on = (first-on st less) })) (Exam .val)
-          (Exam .tells) (λ e′ ws-next. Taken dist size i (st .state) (nth l (st .i)) e′) (λ e′ ws-next. id⊢ 𝓤 _)
+          (factI 𝓤 (Next (t .dist) (t .size) i (st .state) (nth l (st .i))) (emp 𝓤)
+          (record { value = (t .value); list = l; rest = (rest (st .i + 1) l); on = (first-on st less) })) (Exam .val)
+          (Exam .tells) (λ e′ ws-next. Taken (t .dist) (t .size) i (st .state) (nth l (st .i)) e′)
+          (λ e′ ws-next. id⊢ 𝓤 _)
           (operands ! 3 (8 ∷ 14 ∷ 2 ∷ 3 ∷ 5 ∷ 6 ∷ 7 ∷ []) (refl & refl & refl & refl & refl & refl & refl & tt))
           (λ e′ ws-next good-next told-next. land ! (from ! (stop !))
           (store ! 12 refl (Exam .lawful 𝓤 H A W .typed e′ _ good-next .0)) $ move ! (1 ∷ []) $ drop ! $
@@ -265,7 +230,7 @@ module _ {M : Type 1} (𝓤 : URA M) (H : Heap 𝓤) (A : Atoms 𝓤) (W : Given
             columns = tt;
             good = good-next;
             long = tt;
-            on = told-next .onward value l (rest (st .i + 1) l) (first-on st less);
+            on = told-next .onward (t .value) l (rest (st .i + 1) l) (first-on st less);
           })
           (add-one-dec (length l) (st .i) less)))
         where
@@ -280,19 +245,19 @@ module _ {M : Type 1} (𝓤 : URA M) (H : Heap 𝓤) (A : Atoms 𝓤) (W : Given
           (vbool more))) e refl $ leaves-loop ! (load ! (from ! (stop !)) (look ! 14 refl)) $ exec ! (𝓣 .C) (𝓣 .Λ) En
           body.t-5 (atRet En Post) $ move ! (1 ∷ []) $ shares ! lent takes-end $ has ! Exam (st .state) (st .good) $
           fjoin ! $ calls ! fm end.ended (end.clauses 𝓤 H A mem run) (to-end (st .state)) known-end
-          (factI 𝓤 (Last size (st .state)) (emp 𝓤) (record {
-            dist = dist;
-            value = value;
+          (factI 𝓤 (Last (t .size) (st .state)) (emp 𝓤) (record {
+            dist = (t .dist);
+            value = (t .value);
             insertions = i;
             list = l;
             on = (last-on st e);
-          })) (Result .val) (Result .tells) (λ j ws-end. Finished size (st .state) j)
+          })) (Result .val) (Result .tells) (λ j ws-end. Finished (t .size) (st .state) j)
           (λ j ws-end. id⊢ 𝓤 _) (operands ! 3 (8 ∷ 3 ∷ []) (refl & refl & tt))
           (λ j ws-end good-end told-end. land ! (from ! (stop !))
           (init ! 4 refl (Result .lawful 𝓤 H A W .typed j _ good-end .0)) $ move ! (1 ∷ []) $ drop ! $
           unshares ! lent takes-end $ move ! (1 ∷ 0 ∷ []) $ forget ! 13 refl $ forget ! 14 refl $
           returns ! (look ! 2 refl) $ free-all ! (Loans tt) (Full (some (Result .val j)) st) $
-          by ! (exits j tt good-end tt (told-end .answered dist value i l (last-on st e))))
+          by ! (exits j tt good-end tt (told-end .answered (t .dist) (t .value) i l (last-on st e))))
 
       turns : (st : St) → Sq W (At st) (runs (𝓣 .C) (𝓣 .Λ) En body.turn-1 (anyQ (Turned st)))
       turns st = turn-by st (ltb (st .i) (length l)) refl
@@ -320,23 +285,19 @@ module _ {M : Type 1} (𝓤 : URA M) (H : Heap 𝓤) (A : Atoms 𝓤) (W : Given
         (record { i = 0; state = e₀; columns = tt; good = good-begin; long = tt; on = told-begin .whole l refl })))
 
 module _ {M : Type 1} (𝓤 : URA M) (H : Heap 𝓤) (A : Atoms 𝓤) (W : Given 𝓤 H A) (mem : Memory → SProp 𝓤)
-    (run : Routine → Fun 𝓤) (𝓣 : Tables 𝓤 H) (known-begin : Triple 𝓤 (𝓣 .C #begin)
+    (run : Routine → Fun 𝓤) (𝓣 : Tables 𝓤 H) (known-begin : Triple 𝓤 (𝓣 .C begin.Symbol.name)
     (Asks 𝓤 H A begin.ended (begin.clauses 𝓤 H A mem run)))
-    (known-next : Triple 𝓤 (𝓣 .C #next) (Asks 𝓤 H A next.ended (next.clauses 𝓤 H A mem run)))
-    (known-end : Triple 𝓤 (𝓣 .C #end) (Asks 𝓤 H A end.ended (end.clauses 𝓤 H A mem run))) where
+    (known-next : Triple 𝓤 (𝓣 .C next.Symbol.name) (Asks 𝓤 H A next.ended (next.clauses 𝓤 H A mem run)))
+    (known-end : Triple 𝓤 (𝓣 .C end.Symbol.name) (Asks 𝓤 H A end.ended (end.clauses 𝓤 H A mem run))) where
   walks : Walks 𝓤 H A fn.ended stayed (WpFn 𝓤 H (𝓣 .C) (𝓣 .Λ) code.function) (fn.clauses 𝓤 H A mem run)
   walks = walked 𝓤 H A fn.ended stayed (fn.clauses 𝓤 H A mem run) (WpFn 𝓤 H (𝓣 .C) (𝓣 .Λ) code.function)
-      (λ κs. (slice-vals & slice-vals & slice-vals & slice-vals & slice-vals & slice-vals & slice-vals & tt))
-      (λ κs. (list-tells & column-tells & column-tells & column-tells & column-tells & column-tells & column-tells &
-      tt)) (λ κs qs bounds a g are. via 𝓤 _ (fst∗ 𝓤 _ (emp 𝓤))
-      (walk 𝓤 H A W mem run κs qs a are 𝓣 (fmOf 𝓤 H (W .laws) 𝓣) known-begin known-next known-end))
+      (λ κs. seven-vals tt)
+      (λ κs. seven-tell tt) (λ κs qs bounds a g are.
+      via 𝓤 _ (fst∗ 𝓤 _ (emp 𝓤)) (walk 𝓤 H A W mem run κs qs a are 𝓣 (fmOf 𝓤 H (W .laws) 𝓣)
+      known-begin known-next known-end))
 
   meets : Meets 𝓤 H A fn.signature (WpFn 𝓤 H (𝓣 .C) (𝓣 .Λ) code.function) (fn.spec 𝓤 H A mem run)
-  meets = walk-meets 𝓤 H A fn.ended stayed W (goes-none-slice 𝓤 H A W 7 (0 ∷ []) tt (plain (λ _. ofRecord .row)) yes &
-      goes-none-slice 𝓤 H A W 7 (1 ∷ []) tt (plain (λ _. u32)) yes & goes-none-slice 𝓤 H A W 7 (2 ∷ []) tt
-      (plain (λ _. u32)) yes & goes-none-slice 𝓤 H A W 7 (3 ∷ []) tt (plain (λ _. u32)) yes & goes-none-slice 𝓤 H A W
-      7 (4 ∷ []) tt (plain (λ _. u32)) yes & goes-none-slice 𝓤 H A W 7 (5 ∷ []) tt (plain (λ _. u32)) yes &
-      goes-none-slice 𝓤 H A W 7 (6 ∷ []) tt (plain (λ _. u32)) yes & tt) (fn.clauses 𝓤 H A mem run)
+  meets = walk-meets 𝓤 H A fn.ended stayed W (seven-go 𝓤 H A W 0 tt) (fn.clauses 𝓤 H A mem run)
       (WpFn 𝓤 H (𝓣 .C) (𝓣 .Λ) code.function) (WpFn-mono 𝓤 H (W .laws) 𝓣 code.function) walks
 
 pub judged-spec : {M : Type 1} → stated.statement M
@@ -345,9 +306,6 @@ judged-spec 𝓤 H 𝓜 𝓖 𝓡 =
     entered 𝓤 H (tripleOf 𝓤 H (𝓖 .A) fn.signature (fn.spec 𝓤 H (𝓖 .A) (𝓜 .mem) (𝓡 .run)))
     (tables 𝓤 H 𝓜 𝓡 code.env .C) (tables 𝓤 H 𝓜 𝓡 code.env .Λ) #judged code.function (code.unfolded 𝓤 H 𝓜 𝓡)
     (meets 𝓤 H (𝓖 .A) (givenOf 𝓤 H 𝓜 𝓖) (𝓜 .mem) (𝓡 .run) (tablesOf 𝓤 H 𝓜 (tables 𝓤 H 𝓜 𝓡 code.env))
-    (cited 𝓤 H (tripleOf 𝓤 H (𝓖 .A) begin.signature (begin.spec 𝓤 H (𝓖 .A) (𝓜 .mem) (𝓡 .run))) 𝓜 𝓡 code.env #begin
-    begin-def.routine code.calls-judge·exam·begin (begin-thm.met 𝓤 H 𝓜 𝓖 𝓡))
-    (cited 𝓤 H (tripleOf 𝓤 H (𝓖 .A) next.signature (next.spec 𝓤 H (𝓖 .A) (𝓜 .mem) (𝓡 .run))) 𝓜 𝓡 code.env #next
-    next-def.routine code.calls-judge·exam·next (next-thm.met 𝓤 H 𝓜 𝓖 𝓡))
-    (cited 𝓤 H (tripleOf 𝓤 H (𝓖 .A) end.signature (end.spec 𝓤 H (𝓖 .A) (𝓜 .mem) (𝓡 .run))) 𝓜 𝓡 code.env #end
-    end-def.routine code.calls-judge·exam·end (end-thm.met 𝓤 H 𝓜 𝓖 𝓡)))
+    (cited 𝓤 H _ 𝓜 𝓡 code.env begin.Symbol.name _ code.calls-judge·exam·begin (begin.Met.met 𝓤 H 𝓜 𝓖 𝓡))
+    (cited 𝓤 H _ 𝓜 𝓡 code.env next.Symbol.name _ code.calls-judge·exam·next (next.Met.met 𝓤 H 𝓜 𝓖 𝓡))
+    (cited 𝓤 H _ 𝓜 𝓡 code.env end.Symbol.name _ code.calls-judge·exam·end (end.Met.met 𝓤 H 𝓜 𝓖 𝓡)))

@@ -1,12 +1,11 @@
 -- `refresh::bulk` meets its contract: before each record the work is on, with the records from there on left.
 use Prim.Native.Nat.{_-_}
 use native.Mathlib.Omega.{arith}
-use mathlib.Core.Path.{sym, _∙_}
 use lib.ListN.{length}
 use borrow.Author.Needs.{needs}
-use borrow.Author.Tests.{not-true, not-false}
 use Rattle.plan.specs.Table.{table}
 use Rattle.plan.specs.Lent.{lent}
+use Rattle.plan.proofs.Verdicts.{passed-told, failed-told}
 use Rattle.judge.proofs.Listing.{levels}
 use Rattle.refresh.proofs.Listing.{done-odd, judged-so, Left, left-all, next-record, left-behind, last-record, whole-list}
 use Rattle.refresh.proofs.bulk.Statement.{statement}
@@ -23,45 +22,45 @@ abbrev μ-loop : tie.MeasureT-loop
 μ-loop dist size value kind location parent from values idist isize ivalue d₀ s₀ v₀ w₀ k₀ ndist nsize nvalue s k =
     length kind - k
 
--- src/lib.rt:45:9
-is-level-requires : tie.Need-is-level-requires Inv-loop μ-loop
-is-level-requires c κs = search needs
+test-level-requires : tie.Need-test-level-requires Inv-loop μ-loop
+test-level-requires c κs = search needs
 
--- src/lib.rt:46:9
+enum-told : tie.Need-enum-told Inv-loop μ-loop
+enum-told c = search needs
+
+enum-told-2 : tie.Need-enum-told-2 Inv-loop μ-loop
+enum-told-2 c = search needs
+
 refused-requires : tie.Need-refused-requires Inv-loop μ-loop
 refused-requires c κs = search needs
 
--- src/lib.rt:46:9
 returns : tie.Need-returns Inv-loop μ-loop
 returns c =
     let odd = c .before in
-    done-odd _ _ _ _ _ (sym (odd .before .is-level .ensures) ∙ not-true _ (odd .if1 .taken)) (c .refused .ensures)
+    done-odd _ _ _ _ _ (failed-told _ 1 0 0 (odd .before .before .test-level .ensures) (odd .enum-told2 .given .1))
+    (c .refused .ensures)
 
--- src/lib.rt:48:9
 judged-requires : tie.Need-judged-requires Inv-loop μ-loop
 judged-requires c κs = search needs
 
--- src/lib.rt:61:9
 begin-requires : tie.Need-begin-requires Inv-loop μ-loop
 begin-requires c κs =
     let judged = c .before .before .before in
     let level = judged .before in
-    judged-so _ _ _ _ (sym (level .before .is-level .ensures) ∙ not-false _ (level .if1 .left))
+    judged-so _ _ _ _ (passed-told _ 1 0 0 (level .before .before .test-level .ensures) (level .enum-told .given .1))
     (judged .judged .ensures)
 
--- src/lib.rt:63:5
 loop-holds : tie.Need-loop-holds Inv-loop μ-loop
 loop-holds c =
     left-all _ _ _
 
--- src/lib.rt:64:13
 record-at-requires : tie.Need-record-at-requires Inv-loop μ-loop
 record-at-requires c κs =
     let begun = c .before .before .before .before .before .before .before .before in
     let level = begun .before .before .before .before .before in
-    (levels _ (sym (level .before .is-level .ensures) ∙ not-false _ (level .if1 .left)), c .loop-test .taken)
+    let even = passed-told _ 1 0 0 (level .before .before .test-level .ensures) (level .enum-told .given .1) in
+    (levels _ even, c .loop-test .taken)
 
--- src/lib.rt:65:9
 next-requires : tie.Need-next-requires Inv-loop μ-loop
 next-requires c κs =
     let read = c .before .before .before in
@@ -69,27 +68,24 @@ next-requires c κs =
     let begun = turn .before .before .before .before .before .before .before .before in
     let judged = begun .before .before .before .before in
     let level = judged .before in
-    next-record _ _ _ (sym (level .before .is-level .ensures) ∙ not-false _ (level .if1 .left))
+    next-record _ _ _ (passed-told _ 1 0 0 (level .before .before .test-level .ensures) (level .enum-told .given .1))
     (judged .judged .ensures) (begun .begin .ensures) (turn .before .loop .inv) (turn .loop-test .taken)
     (read .record-at .ensures)
 
--- src/lib.rt:78:9
 add-k : tie.Need-add-k Inv-loop μ-loop
 add-k c =
     let turn = c .before .before .before .before .before .before .before .before .before .before .before in
     let begun = turn .before .before .before .before .before .before .before .before in
     let level = begun .before .before .before .before .before in
-    let asked = level .before .before .before .before in
+    let asked = level .before .before .before .before .before in
     let start = asked .before .before .before .before .before .before .before .before .before .before .before .before in
     omega (arith, turn .loop-test .taken, start .good .1 .1 .1 .0 .0)
 
--- src/lib.rt:63:5
 loop-less : tie.Need-loop-less Inv-loop μ-loop
 loop-less c =
     let called = c .before .before .before .before .before .before in
     omega (arith, called .before .before .before .before .before .loop-test .taken)
 
--- src/lib.rt:63:5
 loop-again : tie.Need-loop-again Inv-loop μ-loop
 loop-again c =
     let called = c .before .before .before .before .before .before in
@@ -98,38 +94,33 @@ loop-again c =
     left-behind _ _ _ (turn .before .loop .inv) (turn .loop-test .taken) (read .record-at .ensures)
     (called .next .ensures) (search needs) (search needs) (search needs)
 
--- src/lib.rt:80:5
 end-requires : tie.Need-end-requires Inv-loop μ-loop
 end-requires c κs =
     let turn = c .before .before .before in
     let begun = turn .before .before .before .before .before .before .before .before in
     let judged = begun .before .before .before .before in
     let level = judged .before in
-    last-record _ _ _ (sym (level .before .is-level .ensures) ∙ not-false _ (level .if1 .left))
+    last-record _ _ _ (passed-told _ 1 0 0 (level .before .before .test-level .ensures) (level .enum-told .given .1))
     (judged .judged .ensures) (begun .begin .ensures) (turn .before .loop .inv) (turn .loop-test .left)
 
--- src/lib.rt:20:1
 same-length : tie.Need-same-length Inv-loop μ-loop
 same-length c =
     let ended = c .before .before .before .before .before .before in
     let long = ended .before .before .before .before .before .loop .inv .dist-long in
     search needs
 
--- src/lib.rt:20:1
 same-length-2 : tie.Need-same-length-2 Inv-loop μ-loop
 same-length-2 c =
     let ended = c .before .before .before .before .before .before in
     let long = ended .before .before .before .before .before .loop .inv .size-long in
     search needs
 
--- src/lib.rt:20:1
 same-length-3 : tie.Need-same-length-3 Inv-loop μ-loop
 same-length-3 c =
     let ended = c .before .before .before .before .before .before in
     let long = ended .before .before .before .before .before .loop .inv .value-long in
     search needs
 
--- src/lib.rt:20:1
 returns-2 : tie.Need-returns-2 Inv-loop μ-loop
 returns-2 c =
     let ended = c .before .before .before .before .before .before in
@@ -137,7 +128,7 @@ returns-2 c =
     let begun = turn .before .before .before .before .before .before .before .before in
     let judged = begun .before .before .before .before in
     let level = judged .before in
-    whole-list _ _ _ (sym (level .before .is-level .ensures) ∙ not-false _ (level .if1 .left))
+    whole-list _ _ _ (passed-told _ 1 0 0 (level .before .before .test-level .ensures) (level .enum-told .given .1))
     (judged .judged .ensures) (begun .begin .ensures) (turn .before .loop .inv) (turn .loop-test .left)
     (ended .end .ensures)
 
@@ -147,7 +138,9 @@ bulk-spec =
     (tie.spec
     Inv-loop
     μ-loop
-    is-level-requires
+    test-level-requires
+    enum-told
+    enum-told-2
     refused-requires
     returns
     judged-requires

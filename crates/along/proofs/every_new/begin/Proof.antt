@@ -3,40 +3,30 @@ use Rattle.along.proofs.NewColumns.{begun-odd, begun-refused, begun-sho
 use borrow.Author.Needs.{needs}
 use Rattle.along.proofs.every_new.begin.Statement.{statement}
 use Rattle.along.proofs.every_new.begin.Tie as tie
-use Rattle.along.proofs.every_new.begin.Reads as reads
-use Rattle.along.proofs.every_new.begin.Lts as lts
-use Rattle.mapping.proofs.meet.Stand.start.Reads as start-reads
 
--- src/every_new.rt:27:9
 returns : tie.Need-returns
 returns c =
     begun-odd _ _ (c .if1 .taken)
 
--- src/every_new.rt:30:28
 enum-known-j : tie.Need-enum-known-j
 enum-known-j c = search needs
 
--- src/every_new.rt:31:26
 enum-known-j-2 : tie.Need-enum-known-j-2
 enum-known-j-2 c = search needs
 
--- src/every_new.rt:33:17
 returns-2 : tie.Need-returns-2
 returns-2 c =
     let told = c .before .before in
     begun-short _ _ (told .before .before .if1 .left) _ (told .j2 .given .1) (c .if2 .taken)
 
--- src/every_new.rt:35:27
 start-requires : tie.Need-start-requires
 start-requires c κs = search needs
 
--- src/every_new.rt:21:1
 returns-3 : tie.Need-returns-3
 returns-3 c =
     let told = c .before in
     begun-refused _ _ (told .before .before .if1 .left) _ _ _ (told .j .given .1)
 
--- src/every_new.rt:21:1
 returns-4 : tie.Need-returns-4
 returns-4 c =
     let tried = c .before in

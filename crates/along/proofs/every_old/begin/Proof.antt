@@ -3,33 +3,24 @@ use Rattle.along.proofs.OldColumns.{begun-refused, begun-short, begun-g
 use borrow.Author.Needs.{needs}
 use Rattle.along.proofs.every_old.begin.Statement.{statement}
 use Rattle.along.proofs.every_old.begin.Tie as tie
-use Rattle.along.proofs.every_old.begin.Reads as reads
-use Rattle.along.proofs.every_old.begin.Lts as lts
-use Rattle.mapping.proofs.meet.Stand.start.Reads as start-reads
 
--- src/every_old.rt:23:28
 enum-known-j : tie.Need-enum-known-j
 enum-known-j c = search needs
 
--- src/every_old.rt:25:23
 enum-told : tie.Need-enum-told
 enum-told c = search needs
 
--- src/every_old.rt:26:17
 returns : tie.Need-returns
 returns c =
     begun-short _ _ _ _ (c .before .enum-told .given .1) (c .if1 .taken)
 
--- src/every_old.rt:28:29
 start-requires : tie.Need-start-requires
 start-requires c κs = search needs
 
--- src/every_old.rt:19:1
 returns-2 : tie.Need-returns-2
 returns-2 c =
     begun-refused _ _ _ _ _ _ (c .before .j .given .1)
 
--- src/every_old.rt:19:1
 returns-3 : tie.Need-returns-3
 returns-3 c =
     let tried = c .before in

@@ -3,37 +3,27 @@ use Rattle.along.proofs.NewRows.{begun-refused, begun-outside, begun-go
 use borrow.Author.Needs.{needs}
 use Rattle.along.proofs.new_row.begin.Statement.{statement}
 use Rattle.along.proofs.new_row.begin.Tie as tie
-use Rattle.along.proofs.new_row.begin.Reads as reads
-use Rattle.along.proofs.new_row.begin.Lts as lts
-use Rattle.mapping.proofs.meet.Stand.start.Reads as start-reads
 
--- src/new_row.rt:26:28
 enum-known-j : tie.Need-enum-known-j
 enum-known-j c = search needs
 
--- src/new_row.rt:27:26
 enum-known-j-2 : tie.Need-enum-known-j-2
 enum-known-j-2 c = search needs
 
--- src/new_row.rt:28:16
 cast-if1 : tie.Need-cast-if1
 cast-if1 c = search needs
 
--- src/new_row.rt:29:17
 returns : tie.Need-returns
 returns c =
     begun-outside _ _ _ (c .before .before .before .j2 .given .1) (c .if1 .taken)
 
--- src/new_row.rt:31:26
 start-requires : tie.Need-start-requires
 start-requires c κs = search needs
 
--- src/new_row.rt:22:1
 returns-2 : tie.Need-returns-2
 returns-2 c =
     begun-refused _ _ _ _ _ (c .before .j .given .1)
 
--- src/new_row.rt:22:1
 returns-3 : tie.Need-returns-3
 returns-3 c =
     let tried = c .before in

@@ -18,8 +18,8 @@ returns c =
     let a = c .before .before .before .before .before .before .before .before .before .args in
     hand-columns _ _ (a .records) _ (c .before .before .test-columns .ensures) _ _ _ (c .enum-told2 .given .1)
 
-test-table-requires : tie.Need-test-table-requires
-test-table-requires c κs = search needs
+test-sound-requires : tie.Need-test-sound-requires
+test-sound-requires c κs = search needs
 
 enum-told-3 : tie.Need-enum-told-3
 enum-told-3 c = search needs
@@ -32,7 +32,7 @@ returns-2 c =
     let columns = c .before .before .before in
     let a = columns .before .before .before .before .before .before .before .before .before .args in
     hand-table _ _ (a .records) _ (columns .before .before .test-columns .ensures) (columns .enum-told .given .1) _
-    (c .before .before .test-table .ensures) _ _ _ (c .enum-told4 .given .1)
+    (c .before .before .test-sound .ensures) _ _ _ (c .enum-told4 .given .1)
 
 test-length-requires : tie.Need-test-length-requires
 test-length-requires c κs = search needs
@@ -43,7 +43,7 @@ returns-3 c =
     let columns = trees .before .before .before in
     let a = columns .before .before .before .before .before .before .before .before .before .args in
     hand-length _ _ (a .records) _ (columns .before .before .test-columns .ensures) (columns .enum-told .given .1) _
-    (trees .before .before .test-table .ensures) (trees .enum-told3 .given .1) _ (c .test-length .ensures)
+    (trees .before .before .test-sound .ensures) (trees .enum-told3 .given .1) _ (c .test-length .ensures)
 
 pub first-tests-spec : {M : Type 1} → statement M
 first-tests-spec =
@@ -53,7 +53,7 @@ first-tests-spec =
     enum-told
     enum-told-2
     returns
-    test-table-requires
+    test-sound-requires
     enum-told-3
     enum-told-4
     returns-2

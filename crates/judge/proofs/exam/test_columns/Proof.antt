@@ -1,46 +1,38 @@
 -- `judge::exam::test_columns` meets its contract.
 use borrow.Author.Needs.{needs}
-use mathlib.Core.Path.{sym, _∙_}
-use mathlib.Core.Bool.{true, false}
-use borrow.Author.Tests.{not-true, not-false}
 use Rattle.plan.specs.Table.{table}
-use Rattle.judge.proofs.Judging.{even-told}
+use Rattle.judge.proofs.Judging.{first-uneven, second-even}
 use Rattle.judge.proofs.exam.test_columns.Statement.{statement}
 use Rattle.judge.proofs.exam.test_columns.Tie as tie
 
-long-requires : tie.Need-long-requires
-long-requires c κs = search needs
+test-even-requires : tie.Need-test-even-requires
+test-even-requires c κs = search needs
+
+enum-told : tie.Need-enum-told
+enum-told c = search needs
+
+enum-told-2 : tie.Need-enum-told-2
+enum-told-2 c = search needs
 
 returns : tie.Need-returns
 returns c =
-    let a = c .before .before .before .before .before .before .before .before .args in
+    let a = c .before .before .before .before .before .before .before .before .before .args in
     let t = table (a .dist .now) (a .size .now) (a .value .now) in
-    rw (even-told t false (sym (c .before .long .ensures) ∙ not-true _ (c .if1 .taken)))
+    let i = table (a .idist .now) (a .isize .now) (a .ivalue .now) in
+    first-uneven t i (c .before .before .test-even .ensures) (c .enum-told2 .given .1)
 
-long-requires-2 : tie.Need-long-requires-2
-long-requires-2 c κs = search needs
+test-even-requires-2 : tie.Need-test-even-requires-2
+test-even-requires-2 c κs = search needs
 
 returns-2 : tie.Need-returns-2
 returns-2 c =
-    let first = c .before .before in
-    let a = first .before .before .before .before .before .before .before .before .args in
+    let told = c .before in
+    let a = told .before .before .before .before .before .before .before .before .before .args in
     let t = table (a .dist .now) (a .size .now) (a .value .now) in
     let i = table (a .idist .now) (a .isize .now) (a .ivalue .now) in
-    rw (
-      even-told t true (sym (first .before .long .ensures) ∙ not-false _ (first .if1 .left)),
-      even-told i false (sym (c .before .long2 .ensures) ∙ not-true _ (c .if2 .taken)),
-    )
-
-returns-3 : tie.Need-returns-3
-returns-3 c =
-    let first = c .before .before in
-    let a = first .before .before .before .before .before .before .before .before .args in
-    let t = table (a .dist .now) (a .size .now) (a .value .now) in
-    let i = table (a .idist .now) (a .isize .now) (a .ivalue .now) in
-    rw (
-      even-told t true (sym (first .before .long .ensures) ∙ not-false _ (first .if1 .left)),
-      even-told i true (sym (c .before .long2 .ensures) ∙ not-false _ (c .if2 .left)),
-    )
+    second-even t i (told .before .before .test-even .ensures) (told .enum-told .given .1) (c .test-even2 .ensures)
 
 pub test-columns-spec : {M : Type 1} → statement M
-test-columns-spec = tie.close (tie.spec long-requires returns long-requires-2 returns-2 returns-3)
+test-columns-spec =
+    tie.close
+    (tie.spec test-even-requires enum-told enum-told-2 returns test-even-requires-2 returns-2)

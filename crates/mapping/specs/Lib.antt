@@ -1,3 +1,0 @@
-pub mod Meet
-pub mod Told
-pub mod Follow

@@ -1,2 +1,0 @@
--- What the exported calls answer: the library's answers as structs of plain numbers.
-pub mod Handed

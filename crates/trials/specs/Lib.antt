@@ -1,2 +1,0 @@
--- What the tests of one record answer, and what their contracts cite.
-pub mod Trial

@@ -1,3 +1,0 @@
-pub mod Grown
-pub mod Chain
-pub mod Steps

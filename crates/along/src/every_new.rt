@@ -9,7 +9,7 @@ use crate::way::met;
 use plan::{Answer, Judgement, Meeting, Record, Stand};
 
 // The columns under way: the rows go on, and so many records are passed; or the call is refused.
-#[derive(Drop)]
+#[derive(Clone, Copy)]
 pub enum Placing {
     Goes(Stand, u32),
     Refused(u32, u32, u64),

@@ -8,7 +8,7 @@ use crate::way::met;
 use plan::{Answer, Judgement, Meeting, NewPre, Record, Stand};
 
 // The column under way: the old rows go on, or the call is refused.
-#[derive(Drop)]
+#[derive(Clone, Copy)]
 pub enum Numbering {
     Goes(Stand),
     Refused(u32, u32, u64),

@@ -6,7 +6,7 @@ use crate::way::met;
 use plan::{Judgement, Meeting, NewPre, OldPre, Record, Stand, Was};
 
 // The row under way: it goes on, and so many records are passed; or the answer is known.
-#[derive(Drop)]
+#[derive(Clone, Copy)]
 pub enum NewRow {
     Goes(Stand, u32),
     Told(Was),

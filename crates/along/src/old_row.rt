@@ -6,7 +6,7 @@ use crate::way::met;
 use plan::{Became, Judgement, Meeting, NewPre, OldPre, Record, Stand, wide};
 
 // The row under way: it goes on, or the answer is known.
-#[derive(Drop)]
+#[derive(Clone, Copy)]
 pub enum OldRow {
     Goes(Stand),
     Told(Became),

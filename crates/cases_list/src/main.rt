@@ -1,4 +1,5 @@
 // What the judgement of a list answers: the worked plan, each test at the ends of its range, and the limits.
+#![tactic(auto)]
 use judge::judged;
 use out::{heading, text, text_number, worked};
 use plan::Judgement;

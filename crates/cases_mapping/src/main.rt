@@ -1,5 +1,6 @@
 // What the mappings of row numbers answer and write: both mappings of every row for lists on the worked plan, row by
 // row and as whole columns; rows that no table has; lent columns that are too short.
+#![tactic(auto)]
 use mapping::{map_new, map_old, new_to_old, old_to_new};
 use out::{column, heading, text, text_number, worked};
 use plan::{Answer, Became, NewPre, OldPre, Was};

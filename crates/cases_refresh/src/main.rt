@@ -1,5 +1,6 @@
 // What the bulk call and the single call answer and write: the worked plan's accepted lists, rows behind a new table
 // that stay, new columns that are too short, and a table at the limit.
+#![tactic(auto)]
 use out::{column, flat, heading, text, text_number, worked};
 use plan::{Answer, Record};
 use refresh::{bulk, single};

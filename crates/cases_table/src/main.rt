@@ -1,4 +1,5 @@
 // What the calls answer on the paper's examples, and at the ends of their ranges: one module for each topic.
+#![tactic(auto)]
 mod axes_cases;
 mod soundness_cases;
 mod told;

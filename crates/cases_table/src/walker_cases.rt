@@ -5,7 +5,7 @@ use plan::{Found, Walk};
 use walker::walker::Walker;
 
 // What a walk answers at its start, and in three steps.
-#[derive(Drop)]
+#[derive(Clone, Copy)]
 struct Three {
     start: Found,
     first: Walk,

@@ -15,7 +15,7 @@ use table::sound::test_sound;
 use table::test_even;
 
 // An exam of a list under way: the record before, where the rows go on, how many records passed; or the refusal.
-#[derive(Drop)]
+#[derive(Clone, Copy)]
 pub enum Exam {
     Going(Before, Stand, usize),
     Refused(u32, u32, u64),

@@ -1,5 +1,6 @@
 // One record of a list: what it asks of the table, its tests 4 to 8 behind the record before it, and what it does to
 // the rows. What a kind doesn't use is not read.
+#![tactic(auto)]
 ghost use Rattle.std.specs.Prelude.{◌≡◌};
 ghost use Rattle.plan.specs.Table.{table};
 ghost use Rattle.plan.specs.Records.{known};
@@ -16,7 +17,7 @@ pub mod run;
 pub mod way;
 
 // What a test of a record answers: it passes, or the number of the test that it fails.
-#[derive(Drop)]
+#[derive(Clone, Copy)]
 pub enum Trial {
     Passed,
     Failed(u32),

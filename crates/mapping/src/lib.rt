@@ -1,4 +1,5 @@
 // The two mappings of row numbers, of one row or as whole columns, by a list that is lent as columns.
+#![tactic(auto)]
 ghost use Rattle.std.specs.Prelude.{◌≡◌, length};
 ghost use Rattle.plan.specs.Tree.{count};
 ghost use Rattle.plan.specs.Table.{table};

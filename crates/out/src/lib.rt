@@ -1,4 +1,5 @@
 // For the programs that print cases: text and numbers to standard output, the worked plan, a flat table.
+#![tactic(auto)]
 use libc::STDOUT_FILENO;
 
 pub mod worked;

@@ -1,5 +1,6 @@
 // The small moves of the pass: rows are copied, values are written ahead, a row is closed. Each says what the new
 // columns hold then. In the contracts t is the table that rows are taken from, u the new columns before, and v after.
+#![tactic(auto)]
 ghost use Rattle.std.specs.Prelude.{◌≡◌, ◌+◌, ◌-◌, ◌<◌, ◌≤◌, length, get_or, set, drop};
 ghost use Rattle.plan.specs.Table.{table, most_rows};
 ghost use Rattle.plan.specs.Way.{old_pre};
@@ -9,7 +10,7 @@ ghost use Rattle.pass_moves.specs.Written.{Ended, Pastes, Unread, Stretches, Wro
 use plan::{NewPre, OldPre, Stand};
 
 // Where the pass stands.
-#[derive(Drop)]
+#[derive(Clone, Copy)]
 pub struct Cursor {
     // the next old row and the next new row, and the old rows that the last record took away
     pub stand: Stand,

@@ -212,7 +212,7 @@ module _ {A : Type 0} where
       → Reads r c → ReadsAll rs cs → InOrder (After r) rs → Sorted (c ∷ cs)
   sorted_behind w nil o = (tt, tt)
   sorted_behind {r} {c} w (cons {r = r'} {c = d} {cs = ds} v vs) o =
-      let z = sorted_behind v vs o.2 in
+      let z = sorted_behind {r = r'} {c = d} v vs o.2 in
       let b = reads_before w v (follows-told r r' o.0 o.1) in
       ((b, before_all c d ds b z.0), z)
 

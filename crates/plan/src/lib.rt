@@ -1,15 +1,16 @@
 // The vocabulary of the plan library: row numbers of the old and of the new table, the record of a list, what it finds
 // in the table and does to the rows, what tests say, the answer of a call.
+#![tactic(auto)]
 ghost use Rattle.std.specs.Prelude.{◌≡◌, ◌<◌};
 ghost use Rattle.plan.specs.Answer.{accepted, refused};
 ghost use Rattle.plan.specs.Way.{start};
 
 // A row number of the table as it was. Nothing but a mapping turns it into a row number of the new table.
-#[derive(Drop)]
+#[derive(Clone, Copy)]
 pub struct OldPre(pub u32);
 
 // A row number of the table as it is after a list.
-#[derive(Drop)]
+#[derive(Clone, Copy)]
 pub struct NewPre(pub u32);
 
 impl NewPre {
@@ -19,7 +20,7 @@ impl NewPre {
 
 // One record of a list. What a kind doesn't use is not read.
 #[repr(C)]
-#[derive(Drop)]
+#[derive(Clone, Copy)]
 pub struct Record {
     pub kind: u32,
     pub location: u32,
@@ -44,7 +45,7 @@ impl Record {
 }
 
 // What stands before a record in its list.
-#[derive(Drop)]
+#[derive(Clone, Copy)]
 pub enum Before {
     Nothing,
     After(Record),
@@ -52,7 +53,7 @@ pub enum Before {
 
 // What the tests and the count of a record ask of the table: how many rows it has, at which old row the rows go on
 // behind the record, and whether the location is an open place of the parent.
-#[derive(Drop)]
+#[derive(Clone, Copy)]
 pub struct Place {
     pub rows: u32,
     pub end: OldPre,
@@ -61,7 +62,7 @@ pub struct Place {
 
 // Where a way along a list stands: the old rows go on at row, as new rows from out on. The last record took away the
 // old rows from first up to end.
-#[derive(Drop)]
+#[derive(Clone, Copy)]
 pub struct Stand {
     pub row: OldPre,
     pub out: NewPre,
@@ -85,7 +86,7 @@ impl Stand {
 
 // What a record does to the rows: it is vain; it renames its row; or the old rows up to this one stay, so many rows
 // come behind them, and then the old rows go on.
-#[derive(Drop)]
+#[derive(Clone, Copy)]
 pub enum Meeting {
     Vain,
     Renamed(Stand),
@@ -93,7 +94,7 @@ pub enum Meeting {
 }
 
 // What became of an old row: its new number; it is gone; or the refusal.
-#[derive(Drop)]
+#[derive(Clone, Copy)]
 pub enum Became {
     Row(NewPre),
     Gone,
@@ -101,7 +102,7 @@ pub enum Became {
 }
 
 // Which row a new one was: an old row; a record and the row in its run; or the refusal.
-#[derive(Drop)]
+#[derive(Clone, Copy)]
 pub enum Was {
     Old(OldPre),
     Run(u32, u32),
@@ -109,7 +110,7 @@ pub enum Was {
 }
 
 // What tests say: all passed, or the number of the first that failed, with the place at fault and a count.
-#[derive(Drop)]
+#[derive(Clone, Copy)]
 pub enum Verdict {
     Passed,
     Failed(u32, u32, u64),
@@ -117,7 +118,7 @@ pub enum Verdict {
 
 // What a call hands back: 0 or the number of the test that failed, the place at fault, and a count.
 #[repr(C)]
-#[derive(Drop)]
+#[derive(Clone, Copy)]
 pub struct Answer {
     pub number: u32,
     pub place: u32,
@@ -152,7 +153,7 @@ impl Answer {
 }
 
 // What a call on a row answers: a row, none, or the number of the test that failed and the row at fault.
-#[derive(Drop)]
+#[derive(Clone, Copy)]
 pub enum Found {
     Row(usize),
     Nothing,
@@ -160,7 +161,7 @@ pub enum Found {
 }
 
 // Where a walk starts: what its tests answer, the first candidate and the end. A refused one stands at its end.
-#[derive(Drop)]
+#[derive(Clone, Copy)]
 pub struct Start {
     pub answer: Found,
     pub next: usize,
@@ -168,7 +169,7 @@ pub struct Start {
 }
 
 // What a step answers: a child's row and the next candidate, none, or the test that failed and the candidate.
-#[derive(Drop)]
+#[derive(Clone, Copy)]
 pub enum Walk {
     Child(usize, usize),
     Done,
@@ -176,7 +177,7 @@ pub enum Walk {
 }
 
 // What the judgement says: so many rows are needed, or the number of the test that failed, the place and a count.
-#[derive(Drop)]
+#[derive(Clone, Copy)]
 pub enum Judgement {
     Needs(u64),
     Refused(u32, u32, u64),
@@ -184,7 +185,7 @@ pub enum Judgement {
 
 // `plan_row`: a row, or none.
 #[repr(C)]
-#[derive(Drop)]
+#[derive(Clone, Copy)]
 pub struct PlanRow {
     pub number: u32,
     pub place: u32,
@@ -194,7 +195,7 @@ pub struct PlanRow {
 
 // `plan_part`: the part of the columns that one subtree takes.
 #[repr(C)]
-#[derive(Drop)]
+#[derive(Clone, Copy)]
 pub struct PlanPart {
     pub number: u32,
     pub place: u32,
@@ -204,7 +205,7 @@ pub struct PlanPart {
 
 // `plan_walk`: the next candidate of a child walk, and its end.
 #[repr(C)]
-#[derive(Drop)]
+#[derive(Clone, Copy)]
 pub struct PlanWalk {
     pub number: u32,
     pub place: u32,
@@ -214,7 +215,7 @@ pub struct PlanWalk {
 
 // `plan_step`: a child, or none, and where the next step goes on.
 #[repr(C)]
-#[derive(Drop)]
+#[derive(Clone, Copy)]
 pub struct PlanStep {
     pub number: u32,
     pub place: u64,
@@ -225,7 +226,7 @@ pub struct PlanStep {
 
 // `plan_became`: what became of an old row.
 #[repr(C)]
-#[derive(Drop)]
+#[derive(Clone, Copy)]
 pub struct PlanBecame {
     pub number: u32,
     pub place: u32,
@@ -236,7 +237,7 @@ pub struct PlanBecame {
 
 // `plan_was`: which row a new row was.
 #[repr(C)]
-#[derive(Drop)]
+#[derive(Clone, Copy)]
 pub struct PlanWas {
     pub number: u32,
     pub place: u32,

@@ -1,6 +1,7 @@
 // The calls for C and for Rust, as `include/plan.h` declares them. A call on a list takes one record of the lent slice
 // after another to the functions that it shares with the call on columns; any other hands what it is given to the
 // library. The library's answer is handed back as plain numbers.
+#![tactic(auto)]
 ghost use Rattle.std.specs.Prelude.{◌≡◌, true, [], ◌∷◌, length};
 ghost use Rattle.plan.specs.Tree.{count};
 ghost use Rattle.plan.specs.Table.{table};
@@ -9,7 +10,7 @@ ghost use Rattle.plan.specs.Call.{result};
 ghost use Rattle.plan.specs.Mapping.{fate, origin_at, queried};
 ghost use Rattle.plan.specs.Mapping.{became, was};
 ghost use Rattle.plan.specs.Mapping.{places, OldDone, NewDone};
-ghost use Rattle.plan.specs.Axes.{soundness as soundnessOf, parent as parent_of, first_child, next_sibling, subtree_top, subtree as values_of, walk_start, step as stepAt};
+ghost use Rattle.plan.specs.Axes.{soundness as soundness_of, parent as parent_of, first_child, next_sibling, subtree_top, subtree as values_of, walk_start, step as step_at};
 ghost use Rattle.plan.specs.Call.{Done};
 ghost use Rattle.plan.specs.Handed.{row_of, part_of, walk_of, step_of, became_of, was_of};
 
@@ -27,7 +28,7 @@ use table::walk::{start_walk, step};
 // Is the table sound?
 #[unsafe(no_mangle)]
 pub extern "C" fn plan_soundness(dist: &[u32], size: &[u32], value: &[u32]) -> Answer
-    ensures* { λ a. ⌜ a ≡ soundnessOf (table dist.now size.now value.now) ⌝ }
+    ensures* { λ a. ⌜ a ≡ soundness_of (table dist.now size.now value.now) ⌝ }
 {
     soundness(dist, size, value)
 }
@@ -87,7 +88,7 @@ pub extern "C" fn plan_children(dist: &[u32], size: &[u32], value: &[u32], row: 
 // One step of a child walk over the size column.
 #[unsafe(no_mangle)]
 pub extern "C" fn plan_child(size: &[u32], next: u64, end: u64) -> PlanStep
-    ensures* { λ a. ⌜ a ≡ step_of (stepAt size.now next end) next ⌝ }
+    ensures* { λ a. ⌜ a ≡ step_of (step_at size.now next end) next ⌝ }
 {
     step_of(step(size, next as usize, end as usize), next)
 }

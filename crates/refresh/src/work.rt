@@ -11,7 +11,7 @@ use plan::{Answer, Judgement, Record, Verdict};
 use table::test_even;
 
 // The work on a list: the pass goes on from a cursor, or the list is refused with an answer.
-#[derive(Drop)]
+#[derive(Clone, Copy)]
 pub enum Work {
     Going(Cursor),
     Refused(Answer),

@@ -1,4 +1,5 @@
 // Case A of the worked plan: prints the new table as CSV, a line a row: row number, dist, size, value.
+#![tactic(auto)]
 use out::{number, text, worked};
 use plan::Record;
 

@@ -8,7 +8,7 @@ use crate::rooted;
 use plan::wide;
 
 // What the climb finds: the shape of a tree, or the first row that is wrong.
-#[derive(Drop)]
+#[derive(Clone, Copy)]
 pub enum Shape {
     Tree,
     BadAt(usize),

@@ -1,5 +1,7 @@
 // The table: whether three lent columns are a tree's, what stands around a row, and the walk over a row's children.
 // Every call takes any columns: sound or not, of equal length or not, with any numbers in them.
+#![tactic(auto)]
+
 ghost use Rattle.std.specs.Prelude.{◌≡◌};
 ghost use Rattle.plan.specs.Table.{table, even};
 ghost use Rattle.plan.specs.Call.{test};

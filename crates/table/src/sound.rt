@@ -1,7 +1,7 @@
 // The soundness call, by the sum test: in linear time, with no stack and no array. The values are never read.
 ghost use Rattle.std.specs.Prelude.{◌≡◌};
 ghost use Rattle.plan.specs.Table.{table, sound as soundly};
-ghost use Rattle.plan.specs.Axes.{soundness as soundnessOf};
+ghost use Rattle.plan.specs.Axes.{soundness as soundness_of};
 ghost use Rattle.plan.specs.Call.{test};
 ghost use Rattle.table.specs.Rows.{Rooted, Says};
 ghost use Rattle.table.specs.Shape.{Shaped};
@@ -65,7 +65,7 @@ pub fn test_sound(dist: &[u32], size: &[u32], value: &[u32]) -> Verdict
 
 // The soundness call: tests 1 and 2; accepted it counts the rows.
 pub fn soundness(dist: &[u32], size: &[u32], value: &[u32]) -> Answer
-    ensures { result ≡ soundnessOf (table dist.now size.now value.now) }
+    ensures { result ≡ soundness_of (table dist.now size.now value.now) }
 {
     let Verdict::Passed = test_even(dist, size, value) else {
         return Answer::refused(1, 0, 0);

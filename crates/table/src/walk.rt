@@ -1,7 +1,7 @@
 // The walk over a row's children: where it starts, and its step, over a size column, a candidate and an end.
 ghost use Rattle.std.specs.Prelude.{◌≡◌};
 ghost use Rattle.plan.specs.Table.{table};
-ghost use Rattle.plan.specs.Axes.{walk_start, step as stepAt};
+ghost use Rattle.plan.specs.Axes.{walk_start, step as step_at};
 ghost use Rattle.plan.specs.Axes.{started, walked};
 
 use crate::axes::subtree_top;
@@ -28,7 +28,7 @@ pub fn start_walk(dist: &[u32], size: &[u32], value: &[u32], r: u32) -> Start
 
 // The step at a candidate: it gives the candidate and moves to the row after its subtree, or stays.
 pub fn step(size: &[u32], next: usize, end: usize) -> Walk
-    ensures { walked result ≡ stepAt size.now next end }
+    ensures { walked result ≡ step_at size.now next end }
 {
     if next == end {
         return Walk::Done;

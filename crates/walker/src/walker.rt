@@ -1,13 +1,13 @@
 // A walker over a row's children: it holds the lent size column, the next candidate and the end.
 // The borrow checker covers no function over such a struct: each is thin and proved by hand, and a covered one works.
-ghost use Rattle.plan.specs.Axes.{step as stepAt};
+ghost use Rattle.plan.specs.Axes.{step as step_at};
 ghost use Rattle.walker.specs.Walkers.{Starts, MovesBy, Steps};
 
 use plan::{Found, Walk};
 use table::walk::{start_walk, step};
 
 // A walk on one table: the size column that it was lent, the next candidate and the end.
-#[derive(Drop)]
+#[derive(Clone, Copy)]
 pub struct Walker<'a> {
     pub size: &'a [u32],
     pub next: usize,
@@ -15,14 +15,14 @@ pub struct Walker<'a> {
 }
 
 // A walk that has started: what its tests answer, and the walker. A refused one stands at its end.
-#[derive(Drop)]
+#[derive(Clone, Copy)]
 pub struct Started<'a> {
     pub answer: Found,
     pub walker: Walker<'a>,
 }
 
 // What a step answers, and where the walk then stands.
-#[derive(Drop)]
+#[derive(Clone, Copy)]
 struct Moved {
     answer: Walk,
     next: usize,
@@ -30,7 +30,7 @@ struct Moved {
 
 // The step at a candidate, with where the walk then stands.
 fn stepped(size: &[u32], next: usize, end: usize) -> Moved
-    ensures { MovesBy result (stepAt size.now next end) next }
+    ensures { MovesBy result (step_at size.now next end) next }
 {
     let answer = step(size, next, end);
     let Walk::Child(_, after) = answer else {

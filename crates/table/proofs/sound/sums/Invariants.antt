@@ -1,0 +1,12 @@
+-- `table::sound::sums` meets its contract: the rows passed are in order, and the sum is theirs.
+use Rattle.std.proofs.Common.{◌≡◌, ◌+◌, ◌-◌, ◌*◌, ◌<◌, ◌≤◌, length, refl, arith, rules}
+use Rattle.plan.specs.Axes.{cell}
+use Rattle.table.proofs.Sum.{Near, shape_near}
+use Rattle.table.proofs.Adding.{Adding, adding_first, adding_next, adding_last, no_fit, no_row, product_most, product_same, square_most}
+use Rattle.table.proofs.sound.sums.Given as goal
+
+abbrev pub invariant-loop-r : goal.invariant-loop-r
+invariant-loop-r l = (1 ≤ l.r) × (l.r ≤ length l.size) × Adding l.dist l.size l.r l.sum
+
+abbrev pub decreases-loop-r : goal.decreases-loop-r
+decreases-loop-r l = length l.size - l.r

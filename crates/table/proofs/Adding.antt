@@ -1,6 +1,6 @@
 -- The loop of the sum test: what it keeps, a turn of it, and what its tests tell.
 -- Assumes nothing.
-use Rattle.std.proofs.Common.{◌≡◌, ℕ, zero, suc, ◌+◌, ◌-◌, ◌*◌, ◌/◌, ◌%◌, ◌^◌, ◌<◌, ◌≤◌, Bool, true, false, eqb, List, length, sym, refl, ap, ◌∙◌, subst, mul-le-mul, arith, eqb-true}
+use Rattle.std.proofs.Common.{◌≡◌, ℕ, zero, suc, ◌+◌, ◌*◌, ◌/◌, ◌%◌, ◌^◌, ◌<◌, ◌≤◌, Bool, true, false, eqb, List, length, sym, refl, ap, ◌∙◌, subst, mul-le-mul, arith, eqb-true}
 use borrow.Author.Tests.{eqb-false}
 use Rattle.plan.specs.Axes.{cell}
 use Rattle.plan.proofs.Kit.{by_place}

@@ -1,8 +1,6 @@
 -- What an answer tells where a pattern takes it apart: the passing case, and the refusal that is handed on.
 -- Assumes nothing.
-use Rattle.std.proofs.Common.{◌≡◌, ℕ, ◌+◌, ◌<◌, ◌≤◌, List, [], ◌∷◌, length, sym, refl, ap, ◌∙◌, ⊎_elim, arith}
-use denote.Enum.Declared.{tag_of}
-use types.Run.{OneOf}
+use Rattle.std.proofs.Common.{◌≡◌, ℕ, ◌+◌, ◌<◌, ◌≤◌, List, [], length, sym, refl, ap, ◌∙◌, arith}
 use Rattle.plan.specs.declared.Verdict.{Verdict}
 use Rattle.plan.specs.declared.Verdict.TheVariants.{Passed, Failed}
 use Rattle.plan.specs.Table.{table}
@@ -11,7 +9,6 @@ use Rattle.plan.proofs.Tests.{reply-row, row_same, even_lengths, asked-passed, w
 use Rattle.plan.specs.declared.Found.{Found}
 use Rattle.plan.specs.declared.Found.TheVariants.{Row, Nothing, Refused}
 use Rattle.plan.specs.Axes.{told, asked_row, started}
-use Rattle.plan.specs.contracts.Found.{the_type}
 
 -- ---- a call on a row
 -- the row x that was found is the row r that was asked about, in columns of one length
@@ -70,12 +67,12 @@ parent-told D S L f r q h e =
 
 -- ---- it is not a row
 abbrev pub Other : Found → Type 0
-Other f = OneOf (1 ∷ 2 ∷ []) (tag_of the_type f)
+Other f = (x : ℕ) → f ≡ Row x → ⊥
 
 -- then it stands for a test's refusal, whatever the tests are for
 refused-told : (f : Found) (v : Verdict) (r : ℕ) → Other f → told f ≡ reply v (row r)
     → (number : ℕ) × (place : ℕ) × (count : ℕ) × (v ≡ Failed number place count) × (told f ≡ refuse number place)
-refused-told (Row y) v r o h = ⊎_elim (λ e. absurd (omega arith)) (λ e. absurd (omega arith)) o
+refused-told (Row y) v r o h = absurd (o y refl)
 refused-told Nothing Passed r o h = let z : ◌≡◌ {A = ℕ} 0 1 = cc in absurd (omega arith)
 refused-told Nothing (Failed number place count) r o h = (number, place, count, refl, h)
 refused-told (Refused n p) Passed r o h = let z : ◌≡◌ {A = ℕ} 0 1 = cc in absurd (omega arith)
@@ -112,6 +109,6 @@ module _ (D S L : List ℕ) (f : Found) (r : ℕ) (o : Other f) where
   sibling_handed h = go f o h
     where
       go : (g : Found) → Other g → told g ≡ parent (table D S L) r → told g ≡ next_sibling (table D S L) r
-      go (Row y) u e = ⊎_elim (λ i. absurd (omega arith)) (λ i. absurd (omega arith)) u
+      go (Row y) u e = absurd (u y refl)
       go Nothing u e = rw (← e)
       go (Refused n p) u e = rw (← e)

@@ -1,5 +1,5 @@
 -- `table::axes::asked` meets its contract.
-use Rattle.std.proofs.Common.{ap, ◌∙◌, arith, rules}
+use Rattle.std.proofs.Common.{ap, ◌∙◌, arith}
 use Rattle.plan.specs.Axes.{row}
 use Rattle.plan.proofs.Verdicts.{passed-told, failed_told}
 use Rattle.plan.proofs.Tests.{reply-passed, reply_failed, asked-uneven, asked-past, asked_of}

@@ -1,5 +1,5 @@
 -- `table::climb::fits` meets its contract.
-use Rattle.std.proofs.Common.{arith, rules}
+use Rattle.std.proofs.Common.{arith}
 use Rattle.table.proofs.Upward.{fitting}
 use Rattle.plan.specs.Axes.{cell}
 use Rattle.table.proofs.climb.fits.Goals as goal

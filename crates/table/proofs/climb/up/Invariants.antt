@@ -1,8 +1,6 @@
 -- `table::climb::up` meets its contract: the row stays open at r, and each turn goes to its parent.
-use Rattle.std.proofs.Common.{arith, rules}
 use Rattle.plan.specs.Axes.{cell}
 use Rattle.table.specs.Rows.{Open}
-use Rattle.table.proofs.Upward.{Up, upward, found, open_at}
 use Rattle.table.proofs.climb.up.Given as goal
 
 abbrev pub invariant-loop-x : goal.invariant-loop-x

@@ -1,5 +1,5 @@
 -- `table::sound::sums` meets its contract: the rows passed are in order, and the sum is theirs.
-use Rattle.std.proofs.Common.{◌≡◌, ◌+◌, ◌-◌, ◌*◌, ◌<◌, ◌≤◌, length, refl, arith, rules}
+use Rattle.std.proofs.Common.{◌≡◌, ◌+◌, ◌*◌, ◌<◌, refl, arith}
 use Rattle.plan.specs.Axes.{cell}
 use Rattle.table.proofs.Sum.{Near, shape_near}
 use Rattle.table.proofs.Adding.{Adding, adding_first, adding_next, adding_last, no_fit, no_row, product_most, product_same, square_most}
@@ -19,7 +19,7 @@ returns-then-q-r c =
 pub returns-then-wrapping_add_u32-size : goal.returns-then-wrapping_add_u32-size
 returns-then-wrapping_add_u32-size c =
     let far : let r = c.loop-r.r in c.wrapping_sub_u32-q.result + cell c.args.dist.now r ≡ r =
-        omega (arith, c.type_inv.dist c.loop-r.r) in
+    omega (arith, c.type_inv.dist c.loop-r.r) in
     let r = c.loop-r.r in
     λ h.
     no_fit _ _ r c.wrapping_sub_u32-q.result far
@@ -29,30 +29,30 @@ returns-then-wrapping_add_u32-size c =
 pub overflow_mul-p : goal.overflow_mul-p
 overflow_mul-p c =
     let far : let r = c.loop-r.r in c.wrapping_sub_u32-q.result + cell c.args.dist.now r ≡ r =
-        omega (arith, c.type_inv.dist c.loop-r.r) in
+    omega (arith, c.type_inv.dist c.loop-r.r) in
     let product : let a = c.args in c.wide.result * c.wide-in-loop-r.result ≡ cell a.dist.now c.loop-r.r * cell a.size.now c.loop-r.r =
-        product_same _ _ _ _ c.wide.ensures.0 c.wide-in-loop-r.ensures.0 in
+    product_same _ _ _ _ c.wide.ensures.0 c.wide-in-loop-r.ensures.0 in
     let narrow : cell c.args.size.now c.loop-r.r < 4294967296 =
-        omega (arith, c.shared_slice_known-in-loop-r-2-1.given c.loop-r.r) in
+    omega (arith, c.shared_slice_known-in-loop-r-2-1.given c.loop-r.r) in
     omega (arith, product_most _ _ _ product (omega (arith, far)) narrow)
 
 pub returns-then-p-eq0 : goal.returns-then-p-eq0
 returns-then-p-eq0 c =
     let product : let a = c.args in c.wide.result * c.wide-in-loop-r.result ≡ cell a.dist.now c.loop-r.r * cell a.size.now c.loop-r.r =
-        product_same _ _ _ _ c.wide.ensures.0 c.wide-in-loop-r.ensures.0 in
+    product_same _ _ _ _ c.wide.ensures.0 c.wide-in-loop-r.ensures.0 in
     let r = c.loop-r.r in
     λ h. no_row _ _ r _ product c.if-p-eq0.true (shape_near _ _ r (omega arith) (omega arith) h)
 
 pub overflow_add-sum : goal.overflow_add-sum
 overflow_add-sum c =
     let far : let r = c.loop-r.r in c.wrapping_sub_u32-q.result + cell c.args.dist.now r ≡ r =
-        omega (arith, c.type_inv.dist c.loop-r.r) in
+    omega (arith, c.type_inv.dist c.loop-r.r) in
     let product : let a = c.args in c.wide.result * c.wide-in-loop-r.result ≡ cell a.dist.now c.loop-r.r * cell a.size.now c.loop-r.r =
-        product_same _ _ _ _ c.wide.ensures.0 c.wide-in-loop-r.ensures.0 in
+    product_same _ _ _ _ c.wide.ensures.0 c.wide-in-loop-r.ensures.0 in
     let narrow : cell c.args.size.now c.loop-r.r < 4294967296 =
-        omega (arith, c.shared_slice_known-in-loop-r-2-1.given c.loop-r.r) in
+    omega (arith, c.shared_slice_known-in-loop-r-2-1.given c.loop-r.r) in
     let next : let a = c.args in Adding a.dist.now a.size.now (c.loop-r.r + 1) (c.loop-r.sum + c.wide.result * c.wide-in-loop-r.result) =
-        adding_next _ _ c.loop-r.r c.wrapping_sub_u32-q.result _ _ c.if-q-r.false (omega arith)
+    adding_next _ _ c.loop-r.r c.wrapping_sub_u32-q.result _ _ c.if-q-r.false (omega arith)
     far narrow (omega (arith, c.wrapping_add_u32.ensures, c.if-wrapping_add_u32-size.false))
     product c.if-p-eq0.false c.loop-r.invariant.2 in
     omega (arith, next.most)
@@ -60,13 +60,13 @@ overflow_add-sum c =
 pub loop-r-preserved : goal.loop-r-preserved
 loop-r-preserved c =
     let far : let r = c.loop-r.r in c.wrapping_sub_u32-q.result + cell c.args.dist.now r ≡ r =
-        omega (arith, c.type_inv.dist c.loop-r.r) in
+    omega (arith, c.type_inv.dist c.loop-r.r) in
     let product : let a = c.args in c.wide.result * c.wide-in-loop-r.result ≡ cell a.dist.now c.loop-r.r * cell a.size.now c.loop-r.r =
-        product_same _ _ _ _ c.wide.ensures.0 c.wide-in-loop-r.ensures.0 in
+    product_same _ _ _ _ c.wide.ensures.0 c.wide-in-loop-r.ensures.0 in
     let narrow : cell c.args.size.now c.loop-r.r < 4294967296 =
-        omega (arith, c.shared_slice_known-in-loop-r-2-1.given c.loop-r.r) in
+    omega (arith, c.shared_slice_known-in-loop-r-2-1.given c.loop-r.r) in
     let next : let a = c.args in Adding a.dist.now a.size.now (c.loop-r.r + 1) (c.loop-r.sum + c.wide.result * c.wide-in-loop-r.result) =
-        adding_next _ _ c.loop-r.r c.wrapping_sub_u32-q.result _ _ c.if-q-r.false (omega arith)
+    adding_next _ _ c.loop-r.r c.wrapping_sub_u32-q.result _ _ c.if-q-r.false (omega arith)
     far narrow (omega (arith, c.wrapping_add_u32.ensures, c.if-wrapping_add_u32-size.false))
     product c.if-p-eq0.false c.loop-r.invariant.2 in
     (omega arith, omega arith, next)

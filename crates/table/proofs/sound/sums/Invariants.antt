@@ -1,8 +1,6 @@
 -- `table::sound::sums` meets its contract: the rows passed are in order, and the sum is theirs.
-use Rattle.std.proofs.Common.{◌≡◌, ◌+◌, ◌-◌, ◌*◌, ◌<◌, ◌≤◌, length, refl, arith, rules}
-use Rattle.plan.specs.Axes.{cell}
-use Rattle.table.proofs.Sum.{Near, shape_near}
-use Rattle.table.proofs.Adding.{Adding, adding_first, adding_next, adding_last, no_fit, no_row, product_most, product_same, square_most}
+use Rattle.std.proofs.Common.{◌-◌, ◌≤◌, length}
+use Rattle.table.proofs.Adding.{Adding}
 use Rattle.table.proofs.sound.sums.Given as goal
 
 abbrev pub invariant-loop-r : goal.invariant-loop-r

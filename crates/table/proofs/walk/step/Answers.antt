@@ -1,5 +1,5 @@
 -- `table::walk::step` meets its contract. Of the places on the way, `sized` knows the candidate's size.
-use Rattle.std.proofs.Common.{sym, refl, arith, rules}
+use Rattle.std.proofs.Common.{sym, refl, arith}
 use Rattle.plan.proofs.Tests.{step_end}
 use Rattle.table.proofs.Replies.{step_empty, step_too_far, step_is, size-past}
 use Rattle.table.proofs.walk.step.Goals as goal

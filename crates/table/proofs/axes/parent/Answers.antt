@@ -29,18 +29,18 @@ pub returns-then-d-eq0 : goal.returns-then-d-eq0
 returns-then-d-eq0 c =
     let found : let a = c.args in RowIn a.dist.now a.size.now a.value.now a.r c.in-Row.x =
     asked-told _ _ _ _ _ _ c.asked-f.ensures c.in-Row.is in
-    parent_too_near _ _ _ _ _ _ found c.wide-d.ensures.0 c.if-x-eq0.false c.if-d-eq0.true
+    parent_too_near _ _ _ _ _ _ found c.wide-d.ensures.0 (omega arith) c.if-d-eq0.true
 
 pub returns-then-d-x : goal.returns-then-d-x
 returns-then-d-x c =
     let found : let a = c.args in RowIn a.dist.now a.size.now a.value.now a.r c.in-Row.x =
     asked-told _ _ _ _ _ _ c.asked-f.ensures c.in-Row.is in
-    parent_too_far _ _ _ _ _ _ found c.wide-d.ensures.0 c.if-x-eq0.false
+    parent_too_far _ _ _ _ _ _ found c.wide-d.ensures.0 (omega arith)
     c.if-d-x.true
 
 pub returns : goal.returns
 returns c =
     let found : let a = c.args in RowIn a.dist.now a.size.now a.value.now a.r c.in-Row.x =
     asked-told _ _ _ _ _ _ c.asked-f.ensures c.in-Row.is in
-    parent_is _ _ _ _ _ _ found c.wide-d.ensures.0 c.if-x-eq0.false
+    parent_is _ _ _ _ _ _ found c.wide-d.ensures.0 (omega arith)
     c.if-d-eq0.false c.if-d-x.false

@@ -1,6 +1,7 @@
 // One record of a list: what it asks of the table, its tests 4 to 8 behind the record before it, and what it does to
 // the rows. What a kind doesn't use is not read.
 #![tactic(auto)]
+
 ghost use Rattle.std.specs.Prelude.{◌≡◌};
 ghost use Rattle.plan.specs.Table.{table};
 ghost use Rattle.plan.specs.Records.{known};

@@ -1,0 +1,19 @@
+-- `mapping::old_to_new` meets its contract: before each record the call is on, with the records from there on left.
+use Prim.Native.Nat.{◌-◌}
+use lib.ListN.{length}
+use Rattle.plan.specs.Table.{table}
+use Rattle.plan.specs.Lent.{lent}
+use Rattle.along.specs.OldRow.{Stage}
+use Rattle.mapping.proofs.Driving.{Left}
+use Rattle.mapping.proofs.old_to_new.Given as goal
+
+abbrev pub invariant-loop-k : goal.invariant-loop-k
+invariant-loop-k l =
+    let t = table l.dist l.size l.value in
+    let i = table l.idist l.isize l.ivalue in
+    let q = lent l.kind l.location l.parent l.from l.values in
+    Left (Stage l.row.0) tt t i q l.s l.k
+
+abbrev pub decreases-loop-k : goal.decreases-loop-k
+decreases-loop-k l =
+    length l.kind - l.k

@@ -1,6 +1,7 @@
 // What every call on a lent slice of records begins with: the list is judged, one record after another. In the contract
 // t is the table, and i the insertions.
 #![tactic(auto)]
+
 ghost use Rattle.std.specs.Prelude.{◌≡◌, ◌&&◌};
 ghost use Rattle.plan.specs.Table.{table, even};
 ghost use Rattle.plan.specs.Call.{published_of};

@@ -1,10 +1,11 @@
 // The two mappings of row numbers, of one row or as whole columns, by a list that is lent as columns.
 #![tactic(auto)]
+
 ghost use Rattle.std.specs.Prelude.{◌≡◌, length};
 ghost use Rattle.plan.specs.Tree.{count};
 ghost use Rattle.plan.specs.Table.{table};
 ghost use Rattle.plan.specs.Paint.{origins};
-ghost use Rattle.plan.specs.Call.{result};
+ghost use Rattle.plan.specs.Call.{result as result_of};
 ghost use Rattle.plan.specs.Lent.{lent, level, list};
 ghost use Rattle.plan.specs.Mapping.{fate, origin_at, queried, became, was, places, OldDone, NewDone};
 
@@ -28,13 +29,12 @@ pub fn old_to_new(
     ivalue: &[u32],
     row: OldPre,
 ) -> Became
-    ensures* { λ b. ⌜ (
-        let t = table dist.now size.now value.now in
+    ensures { let t = table dist.now size.now value.now in
         let p = parent.now in
         let l = lent kind.now location.now p from.now values.now in
         let i = table idist.now isize.now ivalue.now in
         let v = queried (level l) t i (list l) (length t.size) row.0 in
-        b ≡ became v (fate (origins (result t i (list l))) 0 row.0)) ⌝ }
+        result ≡ became v (fate (origins (result_of t i (list l))) 0 row.0) }
 {
     let Verdict::Passed = test_level(kind, location, parent, from, values) else {
         return Became::Refused(1, 0, 0);
@@ -67,13 +67,12 @@ pub fn new_to_old(
     ivalue: &[u32],
     row: NewPre,
 ) -> Was
-    ensures* { λ w. ⌜ (
-        let t = table dist.now size.now value.now in
+    ensures { let t = table dist.now size.now value.now in
         let p = parent.now in
         let l = lent kind.now location.now p from.now values.now in
         let i = table idist.now isize.now ivalue.now in
-        let f = result t i (list l) in
-        w ≡ was (queried (level l) t i (list l) (count f) row.0) (origin_at (origins f) row.0)) ⌝ }
+        let f = result_of t i (list l) in
+        result ≡ was (queried (level l) t i (list l) (count f) row.0) (origin_at (origins f) row.0) }
 {
     let Verdict::Passed = test_level(kind, location, parent, from, values) else {
         return Was::Refused(1, 0, 0);
@@ -106,12 +105,11 @@ pub fn map_old(
     ivalue: &[u32],
     number: &mut [u32],
 ) -> Answer
-    ensures* { λ a. ⌜ (
-        let t = table dist.now size.now value.now in
+    ensures { let t = table dist.now size.now value.now in
         let p = parent.now in
         let l = lent kind.now location.now p from.now values.now in
         let i = table idist.now isize.now ivalue.now in
-        OldDone (level l) t i (list l) number.old a number.new) ⌝ }
+        OldDone (level l) t i (list l) number.old result number.new }
 {
     let Verdict::Passed = test_level(kind, location, parent, from, values) else {
         return Answer::refused(1, 0, 0);
@@ -145,13 +143,12 @@ pub fn map_new(
     records: &mut [u32],
     rows: &mut [u32],
 ) -> Answer
-    ensures* { λ a. ⌜ (
-        let t = table dist.now size.now value.now in
+    ensures { let t = table dist.now size.now value.now in
         let p = parent.now in
         let l = lent kind.now location.now p from.now values.now in
         let i = table idist.now isize.now ivalue.now in
         let u = places records.old rows.old in
-        NewDone (level l) t i (list l) u a (places records.new rows.new)) ⌝ }
+        NewDone (level l) t i (list l) u result (places records.new rows.new) }
 {
     let Verdict::Passed = test_level(kind, location, parent, from, values) else {
         return Answer::refused(1, 0, 0);

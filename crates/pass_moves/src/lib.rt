@@ -1,6 +1,7 @@
 // The small moves of the pass: rows are copied, values are written ahead, a row is closed. Each says what the new
 // columns hold then. In the contracts t is the table that rows are taken from, u the new columns before, and v after.
 #![tactic(auto)]
+
 ghost use Rattle.std.specs.Prelude.{◌≡◌, ◌+◌, ◌-◌, ◌<◌, ◌≤◌, length, get_or, set, drop};
 ghost use Rattle.plan.specs.Table.{table, most_rows};
 ghost use Rattle.plan.specs.Way.{old_pre};

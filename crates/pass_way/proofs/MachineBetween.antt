@@ -11,7 +11,7 @@ use lib.ListN.{length}
 use borrow.Author.Tests.{eq-eqb, ne_eqb}
 use Rattle.plan.specs.Tree.{Forest, none, tree, count}
 use Rattle.plan.specs.Table.{Table, TreeOf}
-use Rattle.plan.specs.Change.{Change, insert, act, location}
+use Rattle.plan.specs.Change.{Change, insert, act, location, skip}
 use Rattle.plan.specs.Open.{dist_at, size_at}
 use Rattle.plan.proofs.Kit.{false_of, T_and, cond_elim, by_place}
 use Rattle.plan.proofs.Standing.{mine}
@@ -58,9 +58,11 @@ pass_far b u n none cs e h = arrivals_far b u (λ ds. (none, ds)) cs (far_less b
 pass_far b u n (tree a k r) cs e h =
     let m : ℕ = suc b + count k in
     let near = far_less b n cs (omega arith) h in
-    arrivals_far b u _ cs near
-    ∙ (turn_far b a _ _ _ cs near
-    ∙ both_far a (λ ds. pass (suc b) (suc b) k ds) (λ ds. pass m u r ds) k r cs
+    let K : Pass ℕ = λ ds. pass (suc b) (suc b) k ds in
+    let R : Pass ℕ = λ ds. pass m u r ds in
+    arrivals_far b u (turn b a (skip b m) K R) cs near
+    ∙ (turn_far b a (skip b m) K R cs near
+    ∙ both_far a K R k r cs
     (pass_far (suc b) (suc b) m k cs refl (far_less m n cs (omega arith) h)) (pass_far m u n r cs (omega arith) h))
 
 -- ---- on the way to the place of the next change

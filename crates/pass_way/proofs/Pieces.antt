@@ -130,7 +130,8 @@ module _ (t : Table) where
 module _ {t u : Table} where
   pub line_all : {i q j : ℕ} (f : Forest ℕ) → Line t u i q j f → Line t u (i + count f) q j none
   line_all none l = line_at (omega arith) refl refl l
-  line_all (tree a k r) l = line_at (omega arith) refl refl (line_all r (line-next l))
+  line_all {i = i} (tree a k r) l =
+      line_at (omega arith) refl refl (line_all {i = suc i + count k} r (line-next l))
 
   pub line-part : {b q j : ℕ} (f : Forest ℕ) (n o : ℕ) → Line t u b q j f → 0 < n → n ≤ count f → j < o
       → ((z x : ℕ) → x ≡ o + z → z < n → dist_at u x ≡ get_or (dists (o - j) f) z 0)
@@ -146,7 +147,7 @@ module _ {t u : Table} where
       (λ x. (k, line_at (omega arith) (omega arith) (omega arith) kids))
       (λ x.
       let e : suc o - o ≡ 1 = omega arith in
-      let w = line-part k (n - 1) (suc o) kids (omega arith) (omega arith) (omega arith)
+      let w = line-part {b = suc b} {q = b} {j = o} k (n - 1) (suc o) kids (omega arith) (omega arith) (omega arith)
       (λ i m v w.
       h (suc i) m (omega arith) (omega arith)
       ∙ (get_or-append (dists 1 k) R 0 i (omega (arith, length-dists 1 k))
@@ -154,7 +155,7 @@ module _ {t u : Table} where
       (w.0, line_at (omega arith) (omega arith) (omega arith) w.1)))
       (λ y.
       let e : o + c - j ≡ o - j + c = omega arith in
-      let w = line-part r (n - c) (o + c) (line-next l) (omega arith) (omega arith) (omega arith)
+      let w = line-part {b = suc b + count k} r (n - c) (o + c) (line-next l) (omega arith) (omega arith) (omega arith)
       (λ i m v w.
       h (suc (count k + i)) m (omega arith) (omega arith)
       ∙ (ap (λ (m : ℕ). get_or (dists 1 k ++ R) (m + i) 0) (sym (length-dists 1 k))

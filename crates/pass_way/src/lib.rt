@@ -1,5 +1,6 @@
 // The way of the pass from one record's place to the next: the open row is closed, or rows under it are copied at once.
 #![tactic(auto)]
+
 ghost use Rattle.std.specs.Prelude.{◌≡◌, ◌<◌};
 ghost use Rattle.plan.specs.Table.{table};
 ghost use Rattle.pass_way.specs.Machine.{Away};

@@ -96,10 +96,10 @@ module _ {A : Type 0} (b u : ℕ) (k r : Forest A) where
       pub K : List (Change A)
       pub R : List (Change A)
       pub whole : cs ≡ K ++ R
-      pub kidsK : All Kid K
-      pub sortedK : Sorted K
-      pub pastR : All Past R
-      pub sortedR : Sorted R
+      pub kids_k : All Kid K
+      pub sorted_k : Sorted K
+      pub past_r : All Past R
+      pub sorted_r : Sorted R
 
     cut_step : (c : Change A) (cs : List (Change A)) → Rest c → All Rest cs → Sorted (c ∷ cs) → Cut cs → Cut (c ∷ cs)
     cut_step c cs (later w) v o q =
@@ -107,24 +107,24 @@ module _ {A : Type 0} (b u : ℕ) (k r : Forest A) where
           K = [];
           R = c ∷ cs;
           whole = refl;
-          kidsK = tt;
-          sortedK = tt;
-          pastR = (w, all_map₂ (λ d. T (before c d)) Rest Past (λ d t x. past-past c d w t (deep x)) cs o.0 v);
-          sortedR = o;
+          kids_k = tt;
+          sorted_k = tt;
+          past_r = (w, all_map₂ (λ d. T (before c d)) Rest Past (λ d t x. past-past c d w t (deep x)) cs o.0 v);
+          sorted_r = o;
         }
     cut_step c cs (kid w) v o q =
         record {
           K = c ∷ q.K;
           R = q.R;
           whole = ap (λ (l : List (Change A)). c ∷ l) q.whole;
-          kidsK = (w, q.kidsK);
-          sortedK = (all_left (λ d. T (before c d)) q.K q.R (rw q.whole at o.0), q.sortedK);
-          pastR = q.pastR;
-          sortedR = q.sortedR;
+          kids_k = (w, q.kids_k);
+          sorted_k = (all_left (λ d. T (before c d)) q.K q.R (rw q.whole at o.0), q.sorted_k);
+          past_r = q.past_r;
+          sorted_r = q.sorted_r;
         }
 
     pub cut : (cs : List (Change A)) → All Rest cs → Sorted cs → Cut cs
-    cut [] v o = record { K = []; R = []; whole = refl; kidsK = tt; sortedK = tt; pastR = tt; sortedR = tt }
+    cut [] v o = record { K = []; R = []; whole = refl; kids_k = tt; sorted_k = tt; past_r = tt; sorted_r = tt }
     cut (c ∷ cs) v o = cut_step c cs v.0 v.1 o (cut cs v.1 o.1)
 
     -- the changes at the tree's start, and then the others

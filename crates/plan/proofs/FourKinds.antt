@@ -9,7 +9,7 @@ use lib.ListN.{length, get_or}
 use Rattle.plan.specs.declared.Record.{Record}
 use Rattle.plan.specs.Tree.{Forest}
 use Rattle.plan.specs.Table.{Table, sound, run}
-use Rattle.plan.specs.Change.{delete, rename, replace, insert, act, location}
+use Rattle.plan.specs.Change.{delete, rename, replace, insert, act}
 use Rattle.plan.specs.Paint.{Painted, new, plan}
 use Rattle.plan.specs.Records.{change, known, runs}
 use Rattle.plan.specs.Way.{has_run}

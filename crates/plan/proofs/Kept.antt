@@ -245,12 +245,12 @@ module _ {A : Type 0} (t : Forest A) where
     shape_trim tk tr (plain cs v o) =
         let q = cut b u k r h cs v o in
         subst (λ (l : List (Change A)). Same (kept t [] l) l) (sym q.whole)
-        (plain_trim tk tr q.K q.R q.kidsK q.sortedK q.pastR q.sortedR)
+        (plain_trim tk tr q.K q.R q.kids_k q.sorted_k q.past_r q.sorted_r)
     shape_trim tk tr (acts p x cs m v o) =
         let q = cut b u k r h cs v o in
-        let w = own_trim tk tr q.K q.R q.kidsK q.sortedK q.pastR q.sortedR p x in
+        let w = own_trim tk tr q.K q.R q.kids_k q.sorted_k q.past_r q.sorted_r p x in
         subst (λ (l : List (Change A)). Same (kept t [] (act p x ∷ l)) (act p x ∷ l)) (sym q.whole)
-        (rw (kept_own q.K q.R q.kidsK q.pastR p x (eqb→eq p b m)) (w (true_of (mine b u (act p x)) m)))
+        (rw (kept_own q.K q.R q.kids_k q.past_r p x (eqb→eq p b m)) (w (true_of (mine b u (act p x)) m)))
     shape_trim tk tr (inserts p q s cs m y) =
         ap (λ (l : List (Change A)). all_made b u l (tree a k r)) (kept-insert p q s cs)
         ∙ ap (made b u (insert p q s)) (shape_trim tk tr y)

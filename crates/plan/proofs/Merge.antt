@@ -239,10 +239,10 @@ module _ {A : Type 0} (t : Forest A) where
     shape_merge : {cs : List (Change A)} → Shape b u k r h cs → Whole cs
     shape_merge (plain cs v o) =
         let q = cut b u k r h cs v o in
-        subst Whole (sym q.whole) (plain_merge q.K q.R q.kidsK q.sortedK q.pastR q.sortedR)
+        subst Whole (sym q.whole) (plain_merge q.K q.R q.kids_k q.sorted_k q.past_r q.sorted_r)
     shape_merge (acts p x cs m v o) =
         let q = cut b u k r h cs v o in
-        let z = act_merge q.K q.R q.kidsK q.sortedK q.pastR q.sortedR p x in
+        let z = act_merge q.K q.R q.kids_k q.sorted_k q.past_r q.sorted_r p x in
         subst (λ (l : List (Change A)). Whole (act p x ∷ l)) (sym q.whole)
         (z (true_of (mine b u (act p x)) m) (eqb→eq p b m))
     shape_merge (inserts p q s cs m y) = merge_insert b u n p q s (tree a k r) cs h m (shape_merge y)

@@ -11,7 +11,7 @@ use Rattle.plan.specs.declared.Record.{Record}
 use Rattle.plan.specs.declared.Before.TheVariants.{Nothing}
 use Rattle.plan.specs.Tree.{Forest, count, labels}
 use Rattle.plan.specs.Table.{Table, even, run}
-use Rattle.plan.specs.Change.{delete, rename, replace, Change, insert, act, location, kept}
+use Rattle.plan.specs.Change.{delete, rename, replace, Change, insert, act, location}
 use Rattle.plan.specs.Paint.{Origin, old, new, Painted, painted, plan, origins}
 use Rattle.plan.specs.Records.{is_delete, is_insert, is_rename, change, changes, located}
 use Rattle.plan.specs.Call.{result}

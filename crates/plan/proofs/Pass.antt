@@ -223,12 +223,12 @@ module _ {A : Type 0} where
           let q = cut b u k r h cs v o in
           subst (λ (l : List (Change A)). arrivals b u (onward a) (l ++ ds) ≡ (all_made b u l (tree a k r), ds))
           (sym q.whole)
-          (plain-is a q.K q.R q.kidsK q.sortedK q.pastR q.sortedR)
+          (plain-is a q.K q.R q.kids_k q.sorted_k q.past_r q.sorted_r)
       shaped a (acts p x cs m v o) =
           let q = cut b u k r h cs v o in
           subst (λ (l : List (Change A)). arrivals b u (onward a)
           (act p x ∷ l ++ ds) ≡ (all_made b u (act p x ∷ l) (tree a k r), ds)) (sym q.whole)
-          (act-is a p x q.K q.R (true_of (mine b u (act p x)) m) q.kidsK q.sortedK q.pastR q.sortedR)
+          (act-is a p x q.K q.R (true_of (mine b u (act p x)) m) q.kids_k q.sorted_k q.past_r q.sorted_r)
       shaped a (inserts p q s cs m y) =
           let w = true_of (mine b u (insert p q s)) m in
           rw (w, shaped a y, made_insert b u p q s (all_made b u cs (tree a k r)) w)

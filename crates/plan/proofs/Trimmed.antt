@@ -152,11 +152,11 @@ module _ {A : Type 0} (t : Forest A) where
     shape_same (plain cs v o) =
         let q = cut b u k r h cs v o in
         subst (λ (l : List (Change A)). trimmed 0 0 l ≡ kept t [] l) (sym q.whole)
-        (plain-same q.K q.R q.kidsK q.sortedK q.pastR q.sortedR)
+        (plain-same q.K q.R q.kids_k q.sorted_k q.past_r q.sorted_r)
     shape_same (acts p x cs m v o) =
         let q = cut b u k r h cs v o in
         subst (λ (l : List (Change A)). trimmed 0 0 (act p x ∷ l) ≡ kept t [] (act p x ∷ l)) (sym q.whole)
-        (own_same q.K q.R q.kidsK q.sortedK q.pastR q.sortedR p x (eqb→eq p b m))
+        (own_same q.K q.R q.kids_k q.sorted_k q.past_r q.sorted_r p x (eqb→eq p b m))
     shape_same (inserts p q s cs m y) = first-insert p q s cs (shape_same y)
 
   same : (b u : ℕ) (f : Forest A) → u ≤ b → Rows t b f → Same b u f

@@ -11,7 +11,7 @@ use Rattle.plan.specs.declared.Before.{Before}
 use Rattle.plan.specs.declared.Before.TheVariants.{Nothing, After}
 use Rattle.plan.specs.Tree.{Forest}
 use Rattle.plan.specs.Table.{Table}
-use Rattle.plan.specs.Records.{is_insert, is_rename, is_replace, change, known, located, runs, follows, alone, failing, Alike, Unread}
+use Rattle.plan.specs.Records.{is_insert, is_replace, change, known, located, runs, follows, alone, failing, Alike, Unread}
 use Rattle.plan.proofs.Kit.{T_of, T_and, by_place}
 
 by_flag : {P : Type 0} (m : Bool) → (m ≡ true → P) → (m ≡ false → P) → P

@@ -15,8 +15,8 @@ use Rattle.plan.specs.Call.{result, bulk, answer, over, held}
 use Rattle.plan.specs.Mapping.{mark, new_numbers}
 
 -- the table T and the insertions; new columns with something in them
-abbrev pub planT : Table
-planT =
+abbrev pub plan_t : Table
+plan_t =
     table (1 ∷ 1 ∷ 1 ∷ 2 ∷ 4 ∷ 1 ∷ 6 ∷ [])
     (7 ∷ 3 ∷ 1 ∷ 1 ∷ 2 ∷ 1 ∷ 1 ∷ [])
     (10 ∷ 20 ∷ 30 ∷ 31 ∷ 21 ∷ 32 ∷ 40 ∷ [])
@@ -61,14 +61,14 @@ told (Failed number place count) x y = y
 
 abbrev pub computed : Case → Outcome
 computed c =
-    let f = result planT insertions c.list in
-    let v = bulk true planT insertions c.list (lent c.room) in
+    let f = result plan_t insertions c.list in
+    let v = bulk true plan_t insertions c.list (lent c.room) in
     record {
       answer = answer v (count f);
       columns = held v (written f) (lent c.room);
       origins = told v (origins f) [];
       numbers = told v (new_numbers (origins f) 7 0) [];
-      kept = told v (length (kept (plan old planT) [] (changes insertions 0 c.list))) 0;
+      kept = told v (length (kept (plan old plan_t) [] (changes insertions 0 c.list))) 0;
     }
 
 -- by the paper
@@ -94,13 +94,13 @@ refuses l room n p c =
       outcome = record { answer = refused n p c; columns = lent room; origins = []; numbers = []; kept = 0 };
     }
 
-abbrev listA : List Record
-listA = insert 2 1 2 ∷ delete 4 ∷ insert 6 0 0 ∷ []
+abbrev list_a : List Record
+list_a = insert 2 1 2 ∷ delete 4 ∷ insert 6 0 0 ∷ []
 
 abbrev pub cases : List Case
 cases =
     -- A
-    gives listA
+    gives list_a
     (1 ∷ 1 ∷ 1 ∷ 2 ∷ 3 ∷ 5 ∷ 1 ∷ 7 ∷ [])
     (8 ∷ 4 ∷ 1 ∷ 1 ∷ 1 ∷ 2 ∷ 1 ∷ 1 ∷ [])
     (10 ∷ 20 ∷ 60 ∷ 30 ∷ 31 ∷ 50 ∷ 51 ∷ 40 ∷ [])
@@ -165,5 +165,5 @@ cases =
     (0 ∷ mark ∷ mark ∷ mark ∷ 2 ∷ 3 ∷ 4 ∷ [])
     1
     -- L
-    ∷ refuses listA 7 10 0 8
+    ∷ refuses list_a 7 10 0 8
     ∷ []

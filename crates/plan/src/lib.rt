@@ -1,6 +1,7 @@
 // The vocabulary of the plan library: row numbers of the old and of the new table, the record of a list, what it finds
 // in the table and does to the rows, what tests say, the answer of a call.
 #![tactic(auto)]
+
 ghost use Rattle.std.specs.Prelude.{◌≡◌, ◌<◌};
 ghost use Rattle.plan.specs.Answer.{accepted, refused};
 ghost use Rattle.plan.specs.Way.{start};

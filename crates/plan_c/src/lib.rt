@@ -2,11 +2,12 @@
 // after another to the functions that it shares with the call on columns; any other hands what it is given to the
 // library. The library's answer is handed back as plain numbers.
 #![tactic(auto)]
+
 ghost use Rattle.std.specs.Prelude.{◌≡◌, true, [], ◌∷◌, length};
 ghost use Rattle.plan.specs.Tree.{count};
 ghost use Rattle.plan.specs.Table.{table};
 ghost use Rattle.plan.specs.Paint.{origins};
-ghost use Rattle.plan.specs.Call.{result};
+ghost use Rattle.plan.specs.Call.{result as result_of};
 ghost use Rattle.plan.specs.Mapping.{fate, origin_at, queried};
 ghost use Rattle.plan.specs.Mapping.{became, was};
 ghost use Rattle.plan.specs.Mapping.{places, OldDone, NewDone};
@@ -28,7 +29,7 @@ use table::walk::{start_walk, step};
 // Is the table sound?
 #[unsafe(no_mangle)]
 pub extern "C" fn plan_soundness(dist: &[u32], size: &[u32], value: &[u32]) -> Answer
-    ensures* { λ a. ⌜ a ≡ soundness_of (table dist.now size.now value.now) ⌝ }
+    ensures { result ≡ soundness_of (table dist.now size.now value.now) }
 {
     soundness(dist, size, value)
 }
@@ -36,9 +37,8 @@ pub extern "C" fn plan_soundness(dist: &[u32], size: &[u32], value: &[u32]) -> A
 // The parent of a row; none for row 0.
 #[unsafe(no_mangle)]
 pub extern "C" fn plan_parent(dist: &[u32], size: &[u32], value: &[u32], row: u32) -> PlanRow
-    ensures* { λ a. ⌜ (
-        let t = table dist.now size.now value.now in
-        a ≡ row_of (parent_of t row)) ⌝ }
+    ensures { let t = table dist.now size.now value.now in
+        result ≡ row_of (parent_of t row) }
 {
     row_of(parent(dist, size, value, row))
 }
@@ -46,9 +46,8 @@ pub extern "C" fn plan_parent(dist: &[u32], size: &[u32], value: &[u32], row: u3
 // The first child of a row, or none.
 #[unsafe(no_mangle)]
 pub extern "C" fn plan_first_child(dist: &[u32], size: &[u32], value: &[u32], row: u32) -> PlanRow
-    ensures* { λ a. ⌜ (
-        let t = table dist.now size.now value.now in
-        a ≡ row_of (first_child t row)) ⌝ }
+    ensures { let t = table dist.now size.now value.now in
+        result ≡ row_of (first_child t row) }
 {
     row_of(first_child(dist, size, value, row))
 }
@@ -56,9 +55,8 @@ pub extern "C" fn plan_first_child(dist: &[u32], size: &[u32], value: &[u32], ro
 // The next sibling of a row, or none.
 #[unsafe(no_mangle)]
 pub extern "C" fn plan_next_sibling(dist: &[u32], size: &[u32], value: &[u32], row: u32) -> PlanRow
-    ensures* { λ a. ⌜ (
-        let t = table dist.now size.now value.now in
-        a ≡ row_of (next_sibling t row)) ⌝ }
+    ensures { let t = table dist.now size.now value.now in
+        result ≡ row_of (next_sibling t row) }
 {
     row_of(next_sibling(dist, size, value, row))
 }
@@ -66,9 +64,8 @@ pub extern "C" fn plan_next_sibling(dist: &[u32], size: &[u32], value: &[u32], r
 // The rows of one subtree: where that part of the columns starts, and how long it is.
 #[unsafe(no_mangle)]
 pub extern "C" fn plan_subtree(dist: &[u32], size: &[u32], value: &[u32], row: u32) -> PlanPart
-    ensures* { λ a. ⌜ (
-        let t = table dist.now size.now value.now in
-        a ≡ part_of (subtree_top t row) (length (values_of t row))) ⌝ }
+    ensures { let t = table dist.now size.now value.now in
+        result ≡ part_of (subtree_top t row) (length (values_of t row)) }
 {
     let top = subtree_top(dist, size, value, row);
     let values = subtree(dist, size, value, row);
@@ -78,9 +75,8 @@ pub extern "C" fn plan_subtree(dist: &[u32], size: &[u32], value: &[u32], row: u
 // A walk over the children of a row, at its start.
 #[unsafe(no_mangle)]
 pub extern "C" fn plan_children(dist: &[u32], size: &[u32], value: &[u32], row: u32) -> PlanWalk
-    ensures* { λ a. ⌜ (
-        let t = table dist.now size.now value.now in
-        a ≡ walk_of (walk_start t row)) ⌝ }
+    ensures { let t = table dist.now size.now value.now in
+        result ≡ walk_of (walk_start t row) }
 {
     walk_of(start_walk(dist, size, value, row))
 }
@@ -88,7 +84,7 @@ pub extern "C" fn plan_children(dist: &[u32], size: &[u32], value: &[u32], row: 
 // One step of a child walk over the size column.
 #[unsafe(no_mangle)]
 pub extern "C" fn plan_child(size: &[u32], next: u64, end: u64) -> PlanStep
-    ensures* { λ a. ⌜ a ≡ step_of (step_at size.now next end) next ⌝ }
+    ensures { result ≡ step_of (step_at size.now next end) next }
 {
     step_of(step(size, next as usize, end as usize), next)
 }
@@ -107,12 +103,11 @@ pub extern "C" fn plan_single(
     nsize: &mut [u32],
     nvalue: &mut [u32],
 ) -> Answer
-    ensures* { λ a. ⌜ (
-        let t = table dist.now size.now value.now in
+    ensures { let t = table dist.now size.now value.now in
         let i = table idist.now isize.now ivalue.now in
         let u = table ndist.old nsize.old nvalue.old in
         let w = table ndist.new nsize.new nvalue.new in
-        Done true t i (change ∷ []) u a w) ⌝ }
+        Done true t i (change ∷ []) u result w }
 {
     single(
         dist, size, value, change, idist, isize, ivalue, ndist, nsize, nvalue,
@@ -133,12 +128,11 @@ pub extern "C" fn plan_bulk(
     nsize: &mut [u32],
     nvalue: &mut [u32],
 ) -> Answer
-    ensures* { λ a. ⌜ (
-        let t = table dist.now size.now value.now in
+    ensures { let t = table dist.now size.now value.now in
         let i = table idist.now isize.now ivalue.now in
         let u = table ndist.old nsize.old nvalue.old in
         let w = table ndist.new nsize.new nvalue.new in
-        Done true t i list.now u a w) ⌝ }
+        Done true t i list.now u result w }
 {
     let j = judged(list, dist, size, value, idist, isize, ivalue);
     let mut s = work::begin(j, value, ndist, nsize, nvalue);
@@ -164,11 +158,10 @@ pub extern "C" fn plan_old_to_new(
     ivalue: &[u32],
     row: u32,
 ) -> PlanBecame
-    ensures* { λ a. ⌜ (
-        let t = table dist.now size.now value.now in
+    ensures { let t = table dist.now size.now value.now in
         let i = table idist.now isize.now ivalue.now in
         let v = queried true t i list.now (length t.size) row in
-        a ≡ became_of (became v (fate (origins (result t i list.now)) 0 row))) ⌝ }
+        result ≡ became_of (became v (fate (origins (result_of t i list.now)) 0 row)) }
 {
     let old = OldPre(row);
     let j = judged(list, dist, size, value, idist, isize, ivalue);
@@ -193,12 +186,11 @@ pub extern "C" fn plan_new_to_old(
     ivalue: &[u32],
     row: u32,
 ) -> PlanWas
-    ensures* { λ a. ⌜ (
-        let t = table dist.now size.now value.now in
+    ensures { let t = table dist.now size.now value.now in
         let i = table idist.now isize.now ivalue.now in
-        let f = result t i list.now in
+        let f = result_of t i list.now in
         let v = queried true t i list.now (count f) row in
-        a ≡ was_of (was v (origin_at (origins f) row))) ⌝ }
+        result ≡ was_of (was v (origin_at (origins f) row)) }
 {
     let new = NewPre(row);
     let j = judged(list, dist, size, value, idist, isize, ivalue);
@@ -223,10 +215,9 @@ pub extern "C" fn plan_map_old(
     ivalue: &[u32],
     number: &mut [u32],
 ) -> Answer
-    ensures* { λ a. ⌜ (
-        let t = table dist.now size.now value.now in
+    ensures { let t = table dist.now size.now value.now in
         let i = table idist.now isize.now ivalue.now in
-        OldDone true t i list.now number.old a number.new) ⌝ }
+        OldDone true t i list.now number.old result number.new }
 {
     let j = judged(list, dist, size, value, idist, isize, ivalue);
     let mut w = every_old::begin(j, size.len(), number);
@@ -251,11 +242,10 @@ pub extern "C" fn plan_map_new(
     records: &mut [u32],
     rows: &mut [u32],
 ) -> Answer
-    ensures* { λ a. ⌜ (
-        let t = table dist.now size.now value.now in
+    ensures { let t = table dist.now size.now value.now in
         let i = table idist.now isize.now ivalue.now in
         let u = places records.old rows.old in
-        NewDone true t i list.now u a (places records.new rows.new)) ⌝ }
+        NewDone true t i list.now u result (places records.new rows.new) }
 {
     let j = judged(list, dist, size, value, idist, isize, ivalue);
     let mut w = every_new::begin(j, records, rows);

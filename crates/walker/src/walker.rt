@@ -1,5 +1,4 @@
 // A walker over a row's children: it holds the lent size column, the next candidate and the end.
-// The borrow checker covers no function over such a struct: each is thin and proved by hand, and a covered one works.
 ghost use Rattle.plan.specs.Axes.{step as step_at};
 ghost use Rattle.walker.specs.Walkers.{Starts, MovesBy, Steps};
 

@@ -113,7 +113,8 @@ ends_low t r s h =
 -- the rows that it takes away end where the rows go on
 end_is : (size : List ℕ) (r : Record) → taken_from r + taken size r ≡ cond (removes_rows r) (goes_on_at size r) 0
 end_is size r =
-    cond_elim (λ (n : ℕ). taken_from r + taken size r ≡ n) (removes_rows r) (goes_on_at size r) 0 (λ e. rw e) (λ e. rw e)
+    cond_elim (λ (n : ℕ). taken_from r + taken size r ≡ n) (removes_rows r) (goes_on_at size r) 0
+    (λ e. rw e) (λ e. rw e)
 
 spliced_long : (q at j n : ℕ) (os : List Origin) → length (spliced q at j n os) ≡ (at - q) + n + length os
 spliced_long q at j n os =
@@ -291,8 +292,8 @@ module _ (t i : Table) (l : List Record) (p : Passes t i l) where
         goes-behind : Goes tree i rows even-runs goes_at (taken_from r) (cond (removes_rows r) goes_at 0) (suc j) rs
         goes-behind =
             subst (λ (z : ℕ). Goes tree i rows even-runs goes_at (taken_from r) z (suc j) rs) (end_is t.size r)
-            (subst (λ (z : List ℕ). Goes tree i rows even-runs (goes_on_at z r) (taken_from r) (taken_from r + taken z r)
-            (suc j) rs)
+            (subst (λ (z : List ℕ). Goes tree i rows even-runs (goes_on_at z r) (taken_from r)
+            (taken_from r + taken z r) (suc j) rs)
             (plan-sizes old t p.table-sound)
             (other_goes tree i rows even-runs q a b j r rs is_known has_runs w.goes e o))
 

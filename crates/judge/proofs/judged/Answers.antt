@@ -1,12 +1,6 @@
 -- `judge::judged` meets its contract: before each record the exam is on, with the records from there on left.
-use native.Mathlib.Omega.{arith}
-use Prim.Native.Nat.{◌-◌}
-use borrow.Author.Rules.{rules}
-use lib.ListN.{length}
-use Rattle.plan.specs.Table.{table}
-use Rattle.plan.specs.Lent.{lent}
 use Rattle.plan.proofs.Verdicts.{passed-told, failed_told}
-use Rattle.judge.proofs.Listing.{levels, uneven-list, Left, wanted-more, none-wanted, left_all, next-record, left_behind, last-record, whole-list}
+use Rattle.judge.proofs.Listing.{levels, uneven-list, wanted-more, none-wanted, left_all, next-record, left_behind, last-record, whole-list}
 use Rattle.judge.proofs.judged.Goals as goal
 
 pub returns-in_default : goal.returns-in_default

@@ -1,5 +1,4 @@
 -- `judge_record::tried` meets its contract.
-use borrow.Author.Rules.{rules}
 use Rattle.judge_record.proofs.Trials.{hand_kind, hand_place, hand_run, hand_order, hand_alone}
 use Rattle.judge_record.proofs.tried.Goals as goal
 

@@ -1,5 +1,4 @@
 -- `judge::exam::begin` meets its contract.
-use borrow.Author.Rules.{rules}
 use Rattle.judge.proofs.Judging.{begun-refused, begun_going}
 use Rattle.judge.proofs.exam.begin.Goals as goal
 

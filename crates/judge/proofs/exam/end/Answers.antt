@@ -1,5 +1,4 @@
 -- `judge::exam::end` meets its contract.
-use borrow.Author.Rules.{rules}
 use native.Mathlib.Omega.{arith}
 use Rattle.judge.proofs.Onward.{going, published-refused, few-rows, published-rows}
 use Rattle.judge.proofs.exam.end.Goals as goal

@@ -1,5 +1,4 @@
 -- `judge::exam::next` meets its contract: the record fails a test, or passes and leaves the rows where it does.
-use borrow.Author.Rules.{rules}
 use native.Mathlib.Omega.{arith}
 use Rattle.judge.proofs.Onward.{going, stays, sound-rows, can_try, few-passed, fails, can_count, can_meet, goes_on}
 use Rattle.judge.proofs.exam.next.Goals as goal

@@ -1,5 +1,4 @@
 -- `judge::list::test_level` meets its contract.
-use borrow.Author.Rules.{rules}
 use Rattle.plan.specs.Lent.{lent}
 use Rattle.judge.proofs.Judging.{first-uneven, second-even}
 use Rattle.judge.proofs.Listing.{places, uses, level_pairs}

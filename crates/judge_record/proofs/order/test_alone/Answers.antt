@@ -1,7 +1,6 @@
 -- `judge_record::order::test_alone` meets its contract.
 use mathlib.Core.Path.{refl}
 use mathlib.Core.Bool.{true, false}
-use borrow.Author.Rules.{rules}
 use Rattle.plan.specs.Records.{alone}
 use Rattle.judge_record.proofs.Numbers.{behind, at_first, alone_elsewhere, alone-behind, alone_twice, alone-insert}
 use Rattle.judge_record.proofs.order.test_alone.Goals as goal

@@ -2,7 +2,6 @@
 use native.Mathlib.Omega.{arith}
 use mathlib.Core.Path.{refl}
 use mathlib.Core.Bool.{true, false}
-use borrow.Author.Rules.{rules}
 use Rattle.plan.specs.Records.{follows}
 use Rattle.judge_record.proofs.Numbers.{behind, at_first, order_falls, order_rises, order_last, order_late, order_larger, order_deeper}
 use Rattle.judge_record.proofs.order.test_order.Goals as goal

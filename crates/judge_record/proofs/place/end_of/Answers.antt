@@ -1,6 +1,5 @@
 -- `judge_record::place::end_of` meets its contract.
 use native.Mathlib.Omega.{arith}
-use borrow.Author.Rules.{rules}
 use Rattle.judge_record.proofs.Places.{row_ends, no_row-ends}
 use Rattle.judge_record.proofs.place.end_of.Goals as goal
 

@@ -1,7 +1,6 @@
 -- `judge_record::place::place_of` meets its contract.
 use native.Mathlib.Omega.{arith}
 use mathlib.Core.Path.{refl}
-use borrow.Author.Rules.{rules}
 use Rattle.judge_record.proofs.Places.{rows_few, rows-even, read_place}
 use Rattle.judge_record.proofs.place.place_of.Goals as goal
 

@@ -1,7 +1,6 @@
 -- `judge_record::run::run_at` meets its contract.
 use native.Mathlib.Omega.{arith}
 use mathlib.Core.Path.{sym, ◌∙◌}
-use borrow.Author.Rules.{rules}
 use Rattle.plan.specs.Table.{table}
 use Rattle.judge_record.proofs.Runs.{run-starts_late, run-ends_late, run-within}
 use Rattle.judge_record.proofs.run.run_at.Goals as goal

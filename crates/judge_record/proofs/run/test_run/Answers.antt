@@ -1,7 +1,5 @@
 -- `judge_record::run::test_run` meets its contract.
 use mathlib.Core.Path.{sym, ◌∙◌}
-use borrow.Author.Rules.{rules}
-use borrow.Author.Tests.{not-true, not-false}
 use Rattle.plan.specs.Table.{table}
 use Rattle.judge_record.proofs.Runs.{no_run, own_run, run_again}
 use Rattle.judge_record.proofs.run.test_run.Goals as goal

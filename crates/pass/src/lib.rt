@@ -2,6 +2,7 @@
 // are taken as their places come; what is open is found again by the distances, so there is no array and no stack.
 // In the contracts t is the table, i the insertions, u the new columns before, and v after.
 #![tactic(auto)]
+
 ghost use Rattle.std.specs.Prelude.{◌≡◌, ◌<◌, ◌≤◌, length, get_or};
 ghost use Rattle.plan.specs.Table.{table};
 ghost use Rattle.plan.specs.Way.{stand};

@@ -1,5 +1,6 @@
 // The bulk call and the single call over plain columns: judged by the published tests, and written in one pass.
 #![tactic(auto)]
+
 ghost use Rattle.std.specs.Prelude.{true, [], ◌∷◌};
 ghost use Rattle.plan.specs.Table.{table};
 ghost use Rattle.plan.specs.Lent.{lent, level, list};

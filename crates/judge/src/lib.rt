@@ -1,6 +1,7 @@
 // The judgement of a list: the published tests 1 to 9 in the published order, and the rows that the list needs.
 // Nothing is written, and no array is kept.
 #![tactic(auto)]
+
 ghost use Rattle.std.specs.Prelude.{◌≡◌, leb, ltb};
 ghost use Rattle.plan.specs.Table.{table};
 ghost use Rattle.plan.specs.Call.{test};

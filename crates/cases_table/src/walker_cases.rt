@@ -14,7 +14,7 @@ struct Three {
     third: Walk,
 }
 
-// The walk over the children of row r, for three steps. A function that holds a walker is proved by hand.
+// The walk over the children of row r, for three steps.
 fn steps_of(dist: &[u32], size: &[u32], value: &[u32], r: u32) -> Three {
     let started = Walker::new(dist, size, value, r);
     let mut walker = started.walker;

@@ -2,7 +2,7 @@
  * Case A of the worked plan: three records change a plan of seven rows. Prints the new table as
  * CSV (row, dist, size, value) and ends with status 1 where an answer is not the expected one.
  *
- * From the top of the repository, once `rt staticlib plan_c` has written the archive:
+ * From the top of the repository, once `./archive` has written the archive:
  *
  *   cc -std=c99 -O2 -Iinclude examples/case_a.c target/staticlib/libplan_c.a -o target/case_a
  *   target/case_a

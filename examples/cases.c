@@ -2,7 +2,7 @@
  * The worked plan's lists, lent as slices of records: prints just what the programs `cases_refresh` and `cases_mapping`
  * print of the same lists lent as columns, so that the two ways of lending a list can be compared line by line.
  *
- * From the top of the repository, once `rt staticlib plan_c` has written the archive:
+ * From the top of the repository, once `./archive` has written the archive:
  *
  *   cc -std=c99 -O2 -Iinclude examples/cases.c target/staticlib/libplan_c.a -o target/cases
  *   cat crates/cases_refresh/stdout crates/cases_mapping/stdout > target/expected

@@ -1,4 +1,4 @@
-//! Links the archive that `rt staticlib plan_c` writes, in target/staticlib of the repository.
+//! Links the archive that `./archive` writes, in target/staticlib of the repository.
 
 use std::env;
 use std::path::PathBuf;
@@ -10,7 +10,7 @@ fn main() {
     let archive = folder.join("libplan_c.a");
     println!("cargo:rerun-if-changed={}", archive.display());
     if !archive.is_file() {
-        eprintln!("{} is missing: run `rt staticlib plan_c` first", archive.display());
+        eprintln!("{} is missing: run `./archive` first", archive.display());
         exit(1);
     }
     println!("cargo:rustc-link-search=native={}", folder.display());

@@ -1,167 +1,195 @@
 // What the judgement of a list answers: the worked plan, each test at the ends of its range, and the limits.
 #![tactic(auto)]
+
 use judge::judged;
 use out::{heading, text, text_number, worked};
 use plan::Judgement;
+use std::io;
 
 const LAST: u32 = 4294967295;
 
 // The answer, to the end of the line.
-fn told(a: Judgement) {
+fn told(rt: &impl Print, a: Judgement) -> io::Result<()> {
     match a {
-        Judgement::Needs(n) => text_number(b"needs ", n),
+        Judgement::Needs(n) => text_number(rt, b"needs ", n)?,
         Judgement::Refused(number, place, count) => {
-            text_number(b"refused ", number as u64);
-            text_number(b", place ", place as u64);
-            text_number(b", count ", count);
+            text_number(rt, b"refused ", number as u64)?;
+            text_number(rt, b", place ", place as u64)?;
+            text_number(rt, b", count ", count)?;
         }
     }
-    text(b"\n");
+    text(rt, b"\n")
 }
 
 // A list on the table T.
-fn on_t(name: &[u8], kind: &[u32], location: &[u32], parent: &[u32], from: &[u32], values: &[u32]) {
+fn on_t(
+    rt: &impl Print,
+    name: &[u8],
+    kind: &[u32],
+    location: &[u32],
+    parent: &[u32],
+    from: &[u32],
+    values: &[u32],
+) -> io::Result<()> {
     let dist = worked::DIST;
     let size = worked::SIZE;
     let value = worked::VALUE;
     let idist = worked::RUN_DIST;
     let isize = worked::RUN_SIZE;
     let ivalue = worked::RUN_VALUE;
-    text(name);
-    text(b": ");
-    told(judged(
-        &dist, &size, &value, kind, location, parent, from, values, &idist, &isize, &ivalue,
-    ));
+    text(rt, name)?;
+    text(rt, b": ")?;
+    told(
+        rt,
+        judged(
+            &dist, &size, &value, kind, location, parent, from, values, &idist, &isize, &ivalue,
+        ),
+    )
 }
 
 // Lists of one, two and three records, each as its five numbers.
-fn one(name: &[u8], a: [u32; 5]) {
-    on_t(name, &[a[0]], &[a[1]], &[a[2]], &[a[3]], &[a[4]]);
+fn one(rt: &impl Print, name: &[u8], a: [u32; 5]) -> io::Result<()> {
+    on_t(rt, name, &[a[0]], &[a[1]], &[a[2]], &[a[3]], &[a[4]])
 }
 
-fn two(name: &[u8], a: [u32; 5], b: [u32; 5]) {
+fn two(rt: &impl Print, name: &[u8], a: [u32; 5], b: [u32; 5]) -> io::Result<()> {
     let kind = [a[0], b[0]];
     let location = [a[1], b[1]];
     let parent = [a[2], b[2]];
     let from = [a[3], b[3]];
     let values = [a[4], b[4]];
-    on_t(name, &kind, &location, &parent, &from, &values);
+    on_t(rt, name, &kind, &location, &parent, &from, &values)
 }
 
-fn three(name: &[u8], a: [u32; 5], b: [u32; 5], c: [u32; 5]) {
+fn three(rt: &impl Print, name: &[u8], a: [u32; 5], b: [u32; 5], c: [u32; 5]) -> io::Result<()> {
     let kind = [a[0], b[0], c[0]];
     let location = [a[1], b[1], c[1]];
     let parent = [a[2], b[2], c[2]];
     let from = [a[3], b[3], c[3]];
     let values = [a[4], b[4], c[4]];
-    on_t(name, &kind, &location, &parent, &from, &values);
+    on_t(rt, name, &kind, &location, &parent, &from, &values)
 }
 
 // The lists of the worked plan that are accepted.
-fn accepted() {
-    three(b"A", [2, 2, 1, 2, 0], [1, 4, 0, 0, 0], [2, 6, 0, 0, 0]);
-    three(b"B", [1, 4, 0, 0, 0], [2, 6, 4, 2, 0], [2, 6, 0, 0, 0]);
-    two(b"D", [2, 4, 0, 2, 0], [1, 4, 0, 0, 0]);
+fn accepted(rt: &impl Print) -> io::Result<()> {
+    three(rt, b"A", [2, 2, 1, 2, 0], [1, 4, 0, 0, 0], [2, 6, 0, 0, 0])?;
+    three(rt, b"B", [1, 4, 0, 0, 0], [2, 6, 4, 2, 0], [2, 6, 0, 0, 0])?;
+    two(rt, b"D", [2, 4, 0, 2, 0], [1, 4, 0, 0, 0])
 }
 
-fn accepted_too() {
-    one(b"G, rename", [3, 0, 0, 0, 9]);
-    one(b"I", [2, 3, 2, 2, 0]);
-    on_t(b"J", &[], &[], &[], &[], &[]);
-    one(b"K", [4, 1, 0, 2, 0]);
+fn accepted_too(rt: &impl Print) -> io::Result<()> {
+    one(rt, b"G, rename", [3, 0, 0, 0, 9])?;
+    one(rt, b"I", [2, 3, 2, 2, 0])?;
+    on_t(rt, b"J", &[], &[], &[], &[], &[])?;
+    one(rt, b"K", [4, 1, 0, 2, 0])
 }
 
 // Those that are refused.
-fn refused() {
-    two(b"C", [2, 6, 0, 0, 0], [2, 6, 4, 2, 0]);
-    two(b"E", [1, 4, 0, 0, 0], [2, 4, 0, 2, 0]);
-    two(b"F", [3, 4, 0, 0, 9], [1, 4, 0, 0, 0]);
-    one(b"G", [1, 0, 0, 0, 0]);
-    one(b"H", [2, 5, 0, 2, 0]);
+fn refused(rt: &impl Print) -> io::Result<()> {
+    two(rt, b"C", [2, 6, 0, 0, 0], [2, 6, 4, 2, 0])?;
+    two(rt, b"E", [1, 4, 0, 0, 0], [2, 4, 0, 2, 0])?;
+    two(rt, b"F", [3, 4, 0, 0, 9], [1, 4, 0, 0, 0])?;
+    one(rt, b"G", [1, 0, 0, 0, 0])?;
+    one(rt, b"H", [2, 5, 0, 2, 0])
 }
 
 // Test 4.
-fn kinds() {
-    one(b"kind 0", [0, 1, 0, 0, 0]);
-    one(b"kind 5", [5, 1, 0, 0, 0]);
-    one(b"kind 0 at a location past the table", [0, LAST, 0, 0, 0]);
+fn kinds(rt: &impl Print) -> io::Result<()> {
+    one(rt, b"kind 0", [0, 1, 0, 0, 0])?;
+    one(rt, b"kind 5", [5, 1, 0, 0, 0])?;
+    one(
+        rt,
+        b"kind 0 at a location past the table",
+        [0, LAST, 0, 0, 0],
+    )
 }
 
 // Test 5.
-fn places() {
-    one(b"delete the last row", [1, 6, 0, 0, 0]);
-    one(b"delete at n", [1, 7, 0, 0, 0]);
-    one(b"rename at n", [3, 7, 0, 0, 0]);
-    one(b"replace 0", [4, 0, 0, 0, 0]);
+fn places(rt: &impl Print) -> io::Result<()> {
+    one(rt, b"delete the last row", [1, 6, 0, 0, 0])?;
+    one(rt, b"delete at n", [1, 7, 0, 0, 0])?;
+    one(rt, b"rename at n", [3, 7, 0, 0, 0])?;
+    one(rt, b"replace 0", [4, 0, 0, 0, 0])
 }
 
-fn far_places() {
-    one(b"delete at 4294967295", [1, LAST, 0, 0, 0]);
-    one(b"insert at 4294967295", [2, LAST, 0, 0, 0]);
-    one(b"insert under 4294967295", [2, 6, LAST, 0, 0]);
+fn far_places(rt: &impl Print) -> io::Result<()> {
+    one(rt, b"delete at 4294967295", [1, LAST, 0, 0, 0])?;
+    one(rt, b"insert at 4294967295", [2, LAST, 0, 0, 0])?;
+    one(rt, b"insert under 4294967295", [2, 6, LAST, 0, 0])?;
     one(
+        rt,
         b"delete whose other fields are 4294967295",
         [1, 4, LAST, LAST, LAST],
-    );
+    )
 }
 
 // The first record that fails decides, with its lowest number; what is vain counts nothing.
-fn firsts() {
+fn firsts(rt: &impl Print) -> io::Result<()> {
     three(
+        rt,
         b"test 7, and test 4 in a later record",
         [2, 6, 0, 0, 0],
         [2, 6, 4, 2, 0],
         [0, 6, 0, 0, 0],
-    );
-    two(b"test 5 before test 6", [1, 1, 0, 0, 0], [2, 5, 0, 3, 0]);
+    )?;
+    two(
+        rt,
+        b"test 5 before test 6",
+        [1, 1, 0, 0, 0],
+        [2, 5, 0, 3, 0],
+    )?;
     three(
+        rt,
         b"delete, with a vain insert and a vain replace",
         [1, 1, 0, 0, 0],
         [2, 3, 2, 0, 0],
         [4, 3, 0, 0, 0],
-    );
+    )
 }
 
 // One insert from f, with these insertions.
-fn run(name: &[u8], idist: [u32; 3], isize: [u32; 3], f: u32) {
+fn run(rt: &impl Print, name: &[u8], idist: [u32; 3], isize: [u32; 3], f: u32) -> io::Result<()> {
     let dist = worked::DIST;
     let size = worked::SIZE;
     let value = worked::VALUE;
     let ivalue = worked::RUN_VALUE;
-    text(name);
-    text(b": ");
-    told(judged(
-        &dist,
-        &size,
-        &value,
-        &[2],
-        &[7],
-        &[0],
-        &[f],
-        &[0],
-        &idist,
-        &isize,
-        &ivalue,
-    ));
+    text(rt, name)?;
+    text(rt, b": ")?;
+    told(
+        rt,
+        judged(
+            &dist,
+            &size,
+            &value,
+            &[2],
+            &[7],
+            &[0],
+            &[f],
+            &[0],
+            &idist,
+            &isize,
+            &ivalue,
+        ),
+    )
 }
 
 // Test 6.
-fn runs() {
-    run(b"the last run", [1, 1, 1], [2, 1, 1], 2);
-    run(b"from m", [1, 1, 1], [2, 1, 1], 3);
-    run(b"from 4294967295", [1, 1, 1], [2, 1, 1], LAST);
-    run(b"a run that ends at m", [1, 1, 1], [2, 2, 1], 1);
+fn runs(rt: &impl Print) -> io::Result<()> {
+    run(rt, b"the last run", [1, 1, 1], [2, 1, 1], 2)?;
+    run(rt, b"from m", [1, 1, 1], [2, 1, 1], 3)?;
+    run(rt, b"from 4294967295", [1, 1, 1], [2, 1, 1], LAST)?;
+    run(rt, b"a run that ends at m", [1, 1, 1], [2, 2, 1], 1)
 }
 
-fn bad_runs() {
-    run(b"a run that passes m", [1, 1, 1], [2, 1, 2], 2);
-    run(b"a run of 4294967295 rows", [1, 1, 1], [2, 1, LAST], 2);
-    run(b"a run of no rows", [1, 1, 1], [0, 1, 1], 0);
-    run(b"an unsound run", [1, 2, 1], [2, 1, 1], 0);
+fn bad_runs(rt: &impl Print) -> io::Result<()> {
+    run(rt, b"a run that passes m", [1, 1, 1], [2, 1, 2], 2)?;
+    run(rt, b"a run of 4294967295 rows", [1, 1, 1], [2, 1, LAST], 2)?;
+    run(rt, b"a run of no rows", [1, 1, 1], [0, 1, 1], 0)?;
+    run(rt, b"an unsound run", [1, 2, 1], [2, 1, 1], 0)
 }
 
 // Three inserts at the end of three rows with dists 1,1,1 and these sizes.
-fn chain_of(name: &[u8], size: [u32; 3], parent: [u32; 3]) {
+fn chain_of(rt: &impl Print, name: &[u8], size: [u32; 3], parent: [u32; 3]) -> io::Result<()> {
     let idist = worked::RUN_DIST;
     let isize = worked::RUN_SIZE;
     let ivalue = worked::RUN_VALUE;
@@ -169,54 +197,66 @@ fn chain_of(name: &[u8], size: [u32; 3], parent: [u32; 3]) {
     let kind = [2u32; 3];
     let location = [3u32; 3];
     let from = [2, 2, 0];
-    text(name);
-    text(b": ");
-    told(judged(
-        &ones, &size, &ones, &kind, &location, &parent, &from, &ones, &idist, &isize, &ivalue,
-    ));
+    text(rt, name)?;
+    text(rt, b": ")?;
+    told(
+        rt,
+        judged(
+            &ones, &size, &ones, &kind, &location, &parent, &from, &ones, &idist, &isize, &ivalue,
+        ),
+    )
 }
 
 // The same on the chain of three rows.
-fn chain(name: &[u8], parent: [u32; 3]) {
-    chain_of(name, [3, 2, 1], parent);
+fn chain(rt: &impl Print, name: &[u8], parent: [u32; 3]) -> io::Result<()> {
+    chain_of(rt, name, [3, 2, 1], parent)
 }
 
 // Inserts at location n, under each row of the last line of parents.
-fn ends() {
-    two(b"under 6, then 0", [2, 7, 6, 2, 0], [2, 7, 0, 2, 0]);
-    two(b"under 0, then 6", [2, 7, 0, 2, 0], [2, 7, 6, 2, 0]);
-    one(b"under 1, which ends before", [2, 7, 1, 2, 0]);
+fn ends(rt: &impl Print) -> io::Result<()> {
+    two(rt, b"under 6, then 0", [2, 7, 6, 2, 0], [2, 7, 0, 2, 0])?;
+    two(rt, b"under 0, then 6", [2, 7, 0, 2, 0], [2, 7, 6, 2, 0])?;
+    one(rt, b"under 1, which ends before", [2, 7, 1, 2, 0])
 }
 
-fn chains() {
-    chain(b"chain, under 2, 1, 0", [2, 1, 0]);
-    chain(b"chain, under 2, 2, 0", [2, 2, 0]);
-    chain(b"chain, under 0, 1, 2", [0, 1, 2]);
-    chain(b"chain, under 2, 0, 1", [2, 0, 1]);
+fn chains(rt: &impl Print) -> io::Result<()> {
+    chain(rt, b"chain, under 2, 1, 0", [2, 1, 0])?;
+    chain(rt, b"chain, under 2, 2, 0", [2, 2, 0])?;
+    chain(rt, b"chain, under 0, 1, 2", [0, 1, 2])?;
+    chain(rt, b"chain, under 2, 0, 1", [2, 0, 1])
 }
 
 // Tests 1 and 2: columns of different length, and an unsound table.
-fn columns() {
-    on_t(b"list, values one short", &[1], &[4], &[0], &[0], &[]);
-    chain_of(b"sizes 3,1,1 with dists 1,1,1", [3, 1, 1], [2, 1, 0]);
+fn columns(rt: &impl Print) -> io::Result<()> {
+    on_t(rt, b"list, values one short", &[1], &[4], &[0], &[0], &[])?;
+    chain_of(rt, b"sizes 3,1,1 with dists 1,1,1", [3, 1, 1], [2, 1, 0])
 }
 
 // Test 3: so many equal inserts.
-fn many() {
+fn many(rt: &impl Print) -> io::Result<()> {
     let kind = [2u32; 1025];
     let location = [7u32; 1025];
     let parent = [0u32; 1025];
     let from = [2u32; 1025];
     let values = [0u32; 1025];
     on_t(
+        rt,
         b"1024 records",
         &kind[..1024],
         &location[..1024],
         &parent[..1024],
         &from[..1024],
         &values[..1024],
-    );
-    on_t(b"1025 records", &kind, &location, &parent, &from, &values);
+    )?;
+    on_t(
+        rt,
+        b"1025 records",
+        &kind,
+        &location,
+        &parent,
+        &from,
+        &values,
+    )
 }
 
 // A number goes into a row of a column, if it has that row.
@@ -238,49 +278,52 @@ fn flat_dists(dist: &mut [u32], n: u32) {
 }
 
 // One record on the flat table of 65,535 rows.
-fn flat(name: &[u8], kind: u32, location: u32) {
+fn flat(rt: &impl Print, name: &[u8], kind: u32, location: u32) -> io::Result<()> {
     let mut dist = [0u32; 65535];
     let mut size = [1u32; 65535];
     let value = [0u32; 65535];
     flat_dists(&mut dist, 65535);
     put(&mut size, 0, 65535);
-    text(name);
-    text(b": ");
-    told(judged(
-        &dist,
-        &size,
-        &value,
-        &[kind],
-        &[location],
-        &[0],
-        &[0],
-        &[9],
-        &[1],
-        &[1],
-        &[60],
-    ));
+    text(rt, name)?;
+    text(rt, b": ")?;
+    told(
+        rt,
+        judged(
+            &dist,
+            &size,
+            &value,
+            &[kind],
+            &[location],
+            &[0],
+            &[0],
+            &[9],
+            &[1],
+            &[1],
+            &[60],
+        ),
+    )
 }
 
-fn on_flat() {
-    flat(b"65535 rows, rename", 3, 65534);
-    flat(b"65535 rows, insert of one row", 2, 65535);
-    flat(b"65535 rows, replace by one row", 4, 65534);
+fn on_flat(rt: &impl Print) -> io::Result<()> {
+    flat(rt, b"65535 rows, rename", 3, 65534)?;
+    flat(rt, b"65535 rows, insert of one row", 2, 65535)?;
+    flat(rt, b"65535 rows, replace by one row", 4, 65534)
 }
 
-fn main() {
-    heading(b"lists");
-    accepted();
-    accepted_too();
-    refused();
-    columns();
-    many();
-    kinds();
-    places();
-    far_places();
-    runs();
-    bad_runs();
-    firsts();
-    ends();
-    chains();
-    on_flat();
+fn main(rt: HostRuntime) -> io::Result<()> {
+    heading(&rt, b"lists")?;
+    accepted(&rt)?;
+    accepted_too(&rt)?;
+    refused(&rt)?;
+    columns(&rt)?;
+    many(&rt)?;
+    kinds(&rt)?;
+    places(&rt)?;
+    far_places(&rt)?;
+    runs(&rt)?;
+    bad_runs(&rt)?;
+    firsts(&rt)?;
+    ends(&rt)?;
+    chains(&rt)?;
+    on_flat(&rt)
 }

@@ -1,123 +1,141 @@
 // The soundness call, and the first bad row.
 use crate::told;
 use out::{flat, heading, text, text_number, worked};
+use std::io;
 use table::climb::first_bad;
 use table::sound::{is_sound, soundness};
 
 // What is said of one table, after its name.
-fn case(name: &[u8], dist: &[u32], size: &[u32], value: &[u32]) {
-    text(name);
-    text(b": ");
-    told::answer(soundness(dist, size, value));
-    text(b"  first bad row: ");
-    told::shape(first_bad(dist, size));
+fn case(rt: &impl Print, name: &[u8], dist: &[u32], size: &[u32], value: &[u32]) -> io::Result<()> {
+    text(rt, name)?;
+    text(rt, b": ")?;
+    told::answer(rt, soundness(dist, size, value))?;
+    text(rt, b"  first bad row: ")?;
+    told::shape(rt, first_bad(dist, size))
 }
 
 // Are rows f to e of the columns a run that is sound by itself?
-fn run(dist: &[u32], size: &[u32], value: &[u32], f: usize, e: usize) {
+fn run(
+    rt: &impl Print,
+    dist: &[u32],
+    size: &[u32],
+    value: &[u32],
+    f: usize,
+    e: usize,
+) -> io::Result<()> {
     if f > e {
-        return;
+        return Ok(());
     }
     if e > dist.len() {
-        return;
+        return Ok(());
     }
     if e > size.len() {
-        return;
+        return Ok(());
     }
     if e > value.len() {
-        return;
+        return Ok(());
     }
-    text_number(b"insertions from ", f as u64);
-    text_number(b" to ", e as u64);
+    text_number(rt, b"insertions from ", f as u64)?;
+    text_number(rt, b" to ", e as u64)?;
     if is_sound(&dist[f..e], &size[f..e], &value[f..e]) {
-        text(b": sound\n");
+        text(rt, b": sound\n")?;
     } else {
-        text(b": not sound\n");
+        text(rt, b": not sound\n")?;
     }
+    Ok(())
 }
 
 // The first m rows of the columns.
-fn first_rows(dist: &[u32], size: &[u32], value: &[u32], m: usize) {
+fn first_rows(
+    rt: &impl Print,
+    dist: &[u32],
+    size: &[u32],
+    value: &[u32],
+    m: usize,
+) -> io::Result<()> {
     if m > dist.len() {
-        return;
+        return Ok(());
     }
     if m > size.len() {
-        return;
+        return Ok(());
     }
     if m > value.len() {
-        return;
+        return Ok(());
     }
-    text_number(b"flat, ", m as u64);
-    case(b" rows", &dist[..m], &size[..m], &value[..m]);
+    text_number(rt, b"flat, ", m as u64)?;
+    case(rt, b" rows", &dist[..m], &size[..m], &value[..m])
 }
 
 // The flat table of n rows, in columns of 65,536.
-fn flat_case(n: u32) {
+fn flat_case(rt: &impl Print, n: u32) -> io::Result<()> {
     let mut dist = [0u32; 65536];
     let mut size = [0u32; 65536];
     let value = [0u32; 65536];
     flat(&mut dist, &mut size, n);
-    first_rows(&dist, &size, &value, n as usize);
+    first_rows(rt, &dist, &size, &value, n as usize)
 }
 
 // The table T, no rows, and columns that differ in length.
-fn lengths() {
+fn lengths(rt: &impl Print) -> io::Result<()> {
     let dist = worked::DIST;
     let size = worked::SIZE;
     let value = worked::VALUE;
-    case(b"T", &dist, &size, &value);
-    case(b"no rows", &dist[..0], &size[..0], &value[..0]);
-    case(b"values one row short", &dist, &size, &value[..6]);
-    case(b"dists one row short", &dist[..6], &size, &value);
+    case(rt, b"T", &dist, &size, &value)?;
+    case(rt, b"no rows", &dist[..0], &size[..0], &value[..0])?;
+    case(rt, b"values one row short", &dist, &size, &value[..6])?;
+    case(rt, b"dists one row short", &dist[..6], &size, &value)
 }
 
 // A table of three rows.
-fn three(name: &[u8], dist: [u32; 3], size: [u32; 3]) {
+fn three(rt: &impl Print, name: &[u8], dist: [u32; 3], size: [u32; 3]) -> io::Result<()> {
     let value: [u32; 3] = [10, 20, 30];
-    case(name, &dist, &size, &value);
+    case(rt, name, &dist, &size, &value)
 }
 
-fn threes() {
-    three(b"sizes 3,1,1 with dists 1,1,1", [1, 1, 1], [3, 1, 1]);
-    three(b"sizes 3,1,1 with dists 1,1,2", [1, 1, 2], [3, 1, 1]);
-    three(b"sizes 3,0,1 with dists 1,1,2", [1, 1, 2], [3, 0, 1]);
+fn threes(rt: &impl Print) -> io::Result<()> {
+    three(rt, b"sizes 3,1,1 with dists 1,1,1", [1, 1, 1], [3, 1, 1])?;
+    three(rt, b"sizes 3,1,1 with dists 1,1,2", [1, 1, 2], [3, 1, 1])?;
+    three(rt, b"sizes 3,0,1 with dists 1,1,2", [1, 1, 2], [3, 0, 1])
 }
 
-fn huge() {
+fn huge(rt: &impl Print) -> io::Result<()> {
     let most: u32 = 4294967295;
     three(
+        rt,
         b"sizes 3,4294967295,1 with dists 1,1,2",
         [1, 1, 2],
         [3, most, 1],
-    );
+    )?;
     three(
+        rt,
         b"sizes of 4294967295 with dists 1,1,2",
         [1, 1, 2],
         [most, most, most],
-    );
+    )?;
     three(
+        rt,
         b"dists and sizes of 4294967295",
         [most, most, most],
         [most, most, most],
-    );
+    )
 }
 
-fn runs() {
+fn runs(rt: &impl Print) -> io::Result<()> {
     let dist = worked::RUN_DIST;
     let size = worked::RUN_SIZE;
     let value = worked::RUN_VALUE;
-    run(&dist, &size, &value, 0, 2);
-    run(&dist, &size, &value, 2, 3);
-    run(&dist, &size, &value, 0, 3);
-    run(&dist, &size, &value, 1, 1);
+    run(rt, &dist, &size, &value, 0, 2)?;
+    run(rt, &dist, &size, &value, 2, 3)?;
+    run(rt, &dist, &size, &value, 0, 3)?;
+    run(rt, &dist, &size, &value, 1, 1)
 }
 
-pub fn all() {
-    heading(b"soundness");
-    lengths();
-    threes();
-    huge();
-    runs();
-    flat_case(65535);
-    flat_case(65536);
+pub fn all(rt: &impl Print) -> io::Result<()> {
+    heading(rt, b"soundness")?;
+    lengths(rt)?;
+    threes(rt)?;
+    huge(rt)?;
+    runs(rt)?;
+    flat_case(rt, 65535)?;
+    flat_case(rt, 65536)
 }

@@ -1,76 +1,87 @@
 // The walk over a row's children.
 use crate::told;
 use out::{heading, text, text_number, worked};
+use std::io;
 use table::walk::start_walk;
 
 // So many steps of a walk.
-fn steps(size: &[u32], start: usize, end: usize, count: u32) {
+fn steps(rt: &impl Print, size: &[u32], start: usize, end: usize, count: u32) -> io::Result<()> {
     let mut next = start;
     let mut left = count;
     while left > 0 {
-        next = told::step(table::walk::step(size, next, end), next);
+        next = told::step(rt, table::walk::step(size, next, end), next)?;
         left -= 1;
     }
+    Ok(())
 }
 
 // The walk over the children of row r, for so many steps.
-fn walk(dist: &[u32], size: &[u32], value: &[u32], r: u32, count: u32) {
+fn walk(
+    rt: &impl Print,
+    dist: &[u32],
+    size: &[u32],
+    value: &[u32],
+    r: u32,
+    count: u32,
+) -> io::Result<()> {
     let start = start_walk(dist, size, value, r);
-    text_number(b"walk over the children of ", r as u64);
-    text(b": ");
+    text_number(rt, b"walk over the children of ", r as u64)?;
+    text(rt, b": ")?;
     let answer = start.answer;
-    told::found(answer);
-    text(b"  steps:");
-    steps(size, start.next, start.end, count);
-    text(b"\n");
+    told::found(rt, answer)?;
+    text(rt, b"  steps:")?;
+    steps(rt, size, start.next, start.end, count)?;
+    text(rt, b"\n")
 }
 
-fn worked_table() {
+fn worked_table(rt: &impl Print) -> io::Result<()> {
     let dist = worked::DIST;
     let size = worked::SIZE;
     let value = worked::VALUE;
-    heading(b"walks over T");
-    walk(&dist, &size, &value, 0, 5);
-    walk(&dist, &size, &value, 1, 4);
-    walk(&dist, &size, &value, 2, 2);
-    walk(&dist, &size, &value, 4, 3);
-    walk(&dist, &size, &value, 7, 2);
+    heading(rt, b"walks over T")?;
+    walk(rt, &dist, &size, &value, 0, 5)?;
+    walk(rt, &dist, &size, &value, 1, 4)?;
+    walk(rt, &dist, &size, &value, 2, 2)?;
+    walk(rt, &dist, &size, &value, 4, 3)?;
+    walk(rt, &dist, &size, &value, 7, 2)
 }
 
 // Values one row short.
-fn lengths() {
+fn lengths(rt: &impl Print) -> io::Result<()> {
     let dist = worked::DIST;
     let size = worked::SIZE;
     let value = worked::VALUE;
-    heading(b"T with values one row short");
-    walk(&dist, &size, &value[..6], 0, 2);
+    heading(rt, b"T with values one row short")?;
+    walk(rt, &dist, &size, &value[..6], 0, 2)
 }
 
 // Two walks over an unsound table of five rows.
-fn five(name: &[u8], size: [u32; 5], r: u32) {
+fn five(rt: &impl Print, name: &[u8], size: [u32; 5], r: u32) -> io::Result<()> {
     let dist: [u32; 5] = [1, 1, 2, 3, 4];
     let value: [u32; 5] = [10, 20, 30, 40, 50];
-    heading(name);
-    walk(&dist, &size, &value, 0, 4);
-    walk(&dist, &size, &value, r, 2);
+    heading(rt, name)?;
+    walk(rt, &dist, &size, &value, 0, 4)?;
+    walk(rt, &dist, &size, &value, r, 2)
 }
 
-fn fives() {
+fn fives(rt: &impl Print) -> io::Result<()> {
     five(
+        rt,
         b"sizes 5,1,4,1,1: the second child passes the end",
         [5, 1, 4, 1, 1],
         2,
-    );
+    )?;
     five(
+        rt,
         b"sizes 5,2,1,0,1: the second child has size 0",
         [5, 2, 1, 0, 1],
         3,
-    );
-    five(b"sizes 4,4294967295,1,1,1", [4, 4294967295, 1, 1, 1], 1);
+    )?;
+    five(rt, b"sizes 4,4294967295,1,1,1", [4, 4294967295, 1, 1, 1], 1)
 }
 
-pub fn all() {
-    worked_table();
-    lengths();
-    fives();
+pub fn all(rt: &impl Print) -> io::Result<()> {
+    worked_table(rt)?;
+    lengths(rt)?;
+    fives(rt)
 }

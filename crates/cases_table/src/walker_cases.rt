@@ -2,6 +2,7 @@
 use crate::told;
 use out::{heading, text, text_number, worked};
 use plan::{Found, Walk};
+use std::io;
 use walker::walker::Walker;
 
 // What a walk answers at its start, and in three steps.
@@ -13,7 +14,7 @@ struct Three {
     third: Walk,
 }
 
-// The walk over the children of row r, for three steps. A function that holds a walker is proved by hand.
+// The walk over the children of row r, for three steps.
 fn steps_of(dist: &[u32], size: &[u32], value: &[u32], r: u32) -> Three {
     let started = Walker::new(dist, size, value, r);
     let mut walker = started.walker;
@@ -26,47 +27,51 @@ fn steps_of(dist: &[u32], size: &[u32], value: &[u32], r: u32) -> Three {
 }
 
 // A step's answer.
-fn given(w: Walk) {
-    told::step(w, 0);
+fn given(rt: &impl Print, w: Walk) -> io::Result<()> {
+    told::step(rt, w, 0)?;
+    Ok(())
 }
 
-fn walk(dist: &[u32], size: &[u32], value: &[u32], r: u32) {
+fn walk(rt: &impl Print, dist: &[u32], size: &[u32], value: &[u32], r: u32) -> io::Result<()> {
     let three = steps_of(dist, size, value, r);
     let start = three.start;
     let first = three.first;
     let second = three.second;
     let third = three.third;
-    text_number(b"walker over the children of ", r as u64);
-    text(b": ");
-    told::found(start);
-    text(b"  steps:");
-    given(first);
-    given(second);
-    given(third);
-    text(b"\n");
+    text_number(rt, b"walker over the children of ", r as u64)?;
+    text(rt, b": ")?;
+    told::found(rt, start)?;
+    text(rt, b"  steps:")?;
+    given(rt, first)?;
+    given(rt, second)?;
+    given(rt, third)?;
+    text(rt, b"\n")
 }
 
 // Rows 0 and 1, and a walk that is refused at its start.
-fn worked_table() {
+fn worked_table(rt: &impl Print) -> io::Result<()> {
     let dist = worked::DIST;
     let size = worked::SIZE;
     let value = worked::VALUE;
-    heading(b"the walker on T");
-    walk(&dist, &size, &value, 0);
-    walk(&dist, &size, &value, 1);
-    walk(&dist, &size, &value, 7);
+    heading(rt, b"the walker on T")?;
+    walk(rt, &dist, &size, &value, 0)?;
+    walk(rt, &dist, &size, &value, 1)?;
+    walk(rt, &dist, &size, &value, 7)
 }
 
 // A walk that is refused at its second candidate.
-fn unsound() {
+fn unsound(rt: &impl Print) -> io::Result<()> {
     let dist: [u32; 5] = [1, 1, 2, 3, 4];
     let size: [u32; 5] = [5, 1, 4, 1, 1];
     let value: [u32; 5] = [10, 20, 30, 40, 50];
-    heading(b"the walker on sizes 5,1,4,1,1: the second child passes the end");
-    walk(&dist, &size, &value, 0);
+    heading(
+        rt,
+        b"the walker on sizes 5,1,4,1,1: the second child passes the end",
+    )?;
+    walk(rt, &dist, &size, &value, 0)
 }
 
-pub fn all() {
-    worked_table();
-    unsound();
+pub fn all(rt: &impl Print) -> io::Result<()> {
+    worked_table(rt)?;
+    unsound(rt)
 }

@@ -1,5 +1,6 @@
 // The answers as C gets them: structs of plain numbers. Fields that have nothing to say are 0.
 #![tactic(auto)]
+
 ghost use Rattle.std.specs.Prelude.{◌≡◌};
 ghost use Rattle.plan.specs.Axes.{told, started, walked};
 ghost use Rattle.plan.specs.Handed.{row_of, part_of, walk_of, step_of, became_of, was_of};

@@ -1,30 +1,31 @@
 // For the programs that print cases: text and numbers to standard output, the worked plan, a flat table.
 #![tactic(auto)]
-use libc::STDOUT_FILENO;
+
+use std::io;
 
 pub mod worked;
 
 // These bytes.
-pub fn text(s: &[u8]) {
-    io::write_all(STDOUT_FILENO, s);
+pub fn text(rt: &impl Print, s: &[u8]) -> io::Result<()> {
+    rt.write_all(s)
 }
 
 // A number, in decimal.
-pub fn number(n: u64) {
-    io::print_decimal(STDOUT_FILENO, n);
+pub fn number(rt: &impl Print, n: u64) -> io::Result<()> {
+    print!(rt; "{n}")
 }
 
 // These bytes, and a number.
-pub fn text_number(s: &[u8], n: u64) {
-    text(s);
-    number(n);
+pub fn text_number(rt: &impl Print, s: &[u8], n: u64) -> io::Result<()> {
+    text(rt, s)?;
+    number(rt, n)
 }
 
 // A heading, on a line of its own.
-pub fn heading(s: &[u8]) {
-    text(b"-- ");
-    text(s);
-    text(b"\n");
+pub fn heading(rt: &impl Print, s: &[u8]) -> io::Result<()> {
+    text(rt, b"-- ")?;
+    text(rt, s)?;
+    text(rt, b"\n")
 }
 
 // A number of a column.
@@ -33,12 +34,13 @@ fn wide(x: u32) -> u64 {
 }
 
 // The numbers of a column, each after a space.
-pub fn column(s: &[u32]) {
+pub fn column(rt: &impl Print, s: &[u32]) -> io::Result<()> {
     let mut i = 0;
     while i < s.len() {
-        text_number(b" ", wide(s[i]));
+        text_number(rt, b" ", wide(s[i]))?;
         i += 1;
     }
+    Ok(())
 }
 
 // A number goes into a row of a column, if it has that row.

@@ -1,32 +1,41 @@
 // Case A of the worked plan: prints the new table as CSV, a line a row: row number, dist, size, value.
 #![tactic(auto)]
+
 use out::{number, text, worked};
 use plan::Record;
+use std::io;
 
 // A row of the new table, on a line of its own.
-fn line(row: u64, dist: u32, size: u32, value: u32) {
-    number(row);
-    text(b",");
-    number(dist as u64);
-    text(b",");
-    number(size as u64);
-    text(b",");
-    number(value as u64);
-    text(b"\n");
+fn line(rt: &impl Print, row: u64, dist: u32, size: u32, value: u32) -> io::Result<()> {
+    number(rt, row)?;
+    text(rt, b",")?;
+    number(rt, dist as u64)?;
+    text(rt, b",")?;
+    number(rt, size as u64)?;
+    text(rt, b",")?;
+    number(rt, value as u64)?;
+    text(rt, b"\n")
 }
 
 // As many rows as the call counted.
-fn rows(dist: &[u32; 8], size: &[u32; 8], value: &[u32; 8], count: u64) {
+fn rows(
+    rt: &impl Print,
+    dist: &[u32; 8],
+    size: &[u32; 8],
+    value: &[u32; 8],
+    count: u64,
+) -> io::Result<()> {
     let mut r: usize = 0;
     while r < 8 {
         if (r as u64) < count {
-            line(r as u64, dist[r], size[r], value[r]);
+            line(rt, r as u64, dist[r], size[r], value[r])?;
         }
         r += 1;
     }
+    Ok(())
 }
 
-fn main() {
+fn main(rt: HostRuntime) -> io::Result<()> {
     let dist = worked::DIST;
     let size = worked::SIZE;
     let value = worked::VALUE;
@@ -57,5 +66,5 @@ fn main() {
         &mut new_size,
         &mut new_value,
     );
-    rows(&new_dist, &new_size, &new_value, answer.count);
+    rows(&rt, &new_dist, &new_size, &new_value, answer.count)
 }

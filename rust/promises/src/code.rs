@@ -71,8 +71,8 @@ fn in_file(module: &str, text: &str) -> Vec<Function> {
             name: format!("{scope}::{}", &after[..end]),
             public: words.contains(&"pub"),
             exported: words.contains(&"extern"),
-            asks: contract.contains("requires {"),
-            ensures: contract.split_once("ensures {").map(|(_, ensures)| ensures.to_string()),
+            asks: clauses(&contract, "requires").is_some(),
+            ensures: clauses(&contract, "ensures"),
             answers: answers(&contract),
             brought: brought(text),
             uses: uses(text),
@@ -88,14 +88,31 @@ fn implemented(line: &str) -> &str {
     head.split('<').next().expect("a type has a name")
 }
 
-/// A function's head: the lines from its first up to its body, which starts on a line of its own behind a contract.
+/// A function's head: the lines from its first up to its body, which starts on a line of its own behind a contract, and
+/// else on the line that ends the parameters.
 fn contract(lines: &[&str]) -> String {
-    let own = |line: &&&str| line.trim() != "{";
-    let head: Vec<&str> = match lines[0].ends_with('{') {
-        true => vec![lines[0]],
-        false => lines.iter().take_while(own).copied().collect(),
-    };
+    let mut head = Vec::new();
+    for line in lines.iter().take_while(|line| line.trim() != "{") {
+        head.push(*line);
+        if line.ends_with('{') && (head.len() == 1 || line.trim_start().starts_with(')')) {
+            break;
+        }
+    }
     head.join("\n")
+}
+
+/// The clauses of a kind in a head, from the first of them on: `ensures { .. }`, `ensures* { .. }` or, where a function
+/// has several, `ensures name { .. }`.
+fn clauses(head: &str, kind: &str) -> Option<String> {
+    let lines: Vec<&str> = head.lines().collect();
+    let opens = |line: &&str| {
+        let behind = line.trim_start().strip_prefix(kind);
+        let name = behind.and_then(|rest| rest.split_once('{')).map(|(name, _)| name);
+        name.is_some_and(|name| name.starts_with([' ', '*']))
+    };
+    let first = lines.iter().position(opens)?;
+    let (_, rest) = lines[first].split_once('{')?;
+    Some(std::iter::once(&rest).chain(&lines[first + 1..]).copied().collect::<Vec<_>>().join("\n"))
 }
 
 /// The type behind a head's arrow.
@@ -104,10 +121,22 @@ fn answers(head: &str) -> String {
     behind.unwrap_or("()").split(['<', '{']).next().expect("a type").trim().to_string()
 }
 
-/// What the `use` lines of a file bring in.
+/// What the `use` lines of a file bring in, each name with its path.
 fn uses(text: &str) -> BTreeSet<String> {
-    let lines = text.lines().filter_map(|line| line.strip_prefix("use "));
-    lines.map(|line| line.trim_end_matches(';').to_string()).collect()
+    let mut all = BTreeSet::new();
+    for line in text.split(';').filter_map(|part| part.trim_start().strip_prefix("use ")) {
+        match line.split_once("::{") {
+            Some((path, names)) => {
+                let names = names.trim_end_matches('}').split(',').map(str::trim);
+                let names = names.filter(|name| !name.is_empty());
+                all.extend(names.map(|name| format!("{path}::{name}")));
+            }
+            None => {
+                all.insert(line.to_string());
+            }
+        }
+    }
+    all
 }
 
 /// What the `ghost use` lines of a file bring in, by the name that it has in the file.
@@ -124,15 +153,15 @@ fn brought(text: &str) -> BTreeMap<String, Brought> {
     all
 }
 
-/// An operator without the marks for its arguments: `_≡_` is `≡`.
+/// An operator without the marks for its arguments: `◌≡◌` is `≡`.
 fn bare(name: &str) -> &str {
-    name.trim().trim_matches('_')
+    name.trim().trim_matches('◌')
 }
 
-/// The words of a contract; a field, as in `t .size`, is none.
+/// The words of a contract; a field, as in `t.size` or `(table d s v).size`, is none.
 pub fn words(text: &str) -> BTreeSet<&str> {
     let parts = text.split(|c: char| c.is_whitespace() || "(){},⌜⌝".contains(c));
-    parts.filter(|word| !word.starts_with('.')).map(|word| word.trim_end_matches('.')).collect()
+    parts.filter_map(|word| word.split('.').next()).filter(|word| !word.is_empty()).collect()
 }
 
 /// The code of a file without its comments, which a mark begins.
@@ -166,19 +195,30 @@ pub fn theorems(text: &str) -> Vec<String> {
 mod tests {
     use super::*;
 
-    const FILE: &str = "use plan::Walk;
-ghost use lib.Dec.{leb};
-ghost use Rattle·plan.specs.Axes.{parent as parentOf, _⊕_};
+    const FILE: &str = "use plan::{
+    Found, Walk,
+};
+ghost use Rattle.std.specs.Prelude.{◌≤◌};
+ghost use Rattle.plan.specs.Axes.{parent as parent_of, first, size, leb, ◌⊕◌};
 impl<'a> Walker<'a> {
     pub fn step(&mut self) -> Walk<'a>
-        requires { ⌜ leb 0 1 ⌝ }
-        ensures { λ a. ⌜ a ≡ parentOf (t .leb) ⌝ }
+        requires low { 0 ≤ 1 }
+        ensures is_parent { result ≡ parent_of t.leb }
+        ensures* { λ a. ⌜ a ≡ (first t).size ⌝ }
     {
         ensures
     }
 }
-fn plain(x: u32) -> u32 {
+fn plain(
+    x: u32,
+) -> u32 {
     x
+}
+#[unsafe(no_mangle)]
+pub extern \"C\" fn given() -> u32
+    ensures { result ≡ 0 }
+{
+    0
 }
 ";
 
@@ -186,20 +226,22 @@ fn plain(x: u32) -> u32 {
     fn functions_are_found_with_their_contracts() {
         let found = in_file("c::walker", FILE);
         let names: Vec<&str> = found.iter().map(|function| function.name.as_str()).collect();
-        assert_eq!(names, ["c::walker::Walker::step", "c::walker::plain"]);
+        assert_eq!(names, ["c::walker::Walker::step", "c::walker::plain", "c::walker::given"]);
         assert!(found[0].public && found[0].asks && !found[0].exported);
-        assert!(found[1].ensures.is_none() && !found[1].public);
+        assert!(found[1].ensures.is_none() && !found[1].public && !found[1].asks);
+        assert!(found[2].ensures.is_some() && found[2].exported && !found[2].asks);
         assert_eq!([&found[0].answers, &found[1].answers], ["Walk", "u32"]);
-        assert!(found[0].uses.contains("plan::Walk"));
-        assert_eq!(found[0].brought["parentOf"].name, "parent");
-        assert_eq!(found[0].brought["⊕"].module, "Rattle·plan.specs.Axes");
+        assert!(found[0].uses.contains("plan::Walk") && found[0].uses.contains("plan::Found"));
+        assert_eq!(found[0].brought["parent_of"].name, "parent");
+        assert_eq!(found[0].brought["⊕"].module, "Rattle.plan.specs.Axes");
         let ensures = found[0].ensures.as_deref().expect("a contract");
-        assert!(words(ensures).contains("parentOf") && !words(ensures).contains("leb"));
+        assert!(["parent_of", "first", "≡"].iter().all(|word| words(ensures).contains(word)));
+        assert!(["leb", "size"].iter().all(|word| !words(ensures).contains(word)));
     }
 
     #[test]
     fn declarations_are_found() {
-        assert!(declares("abbrev pub mostRows : ℕ\nmostRows = 1", "mostRows"));
+        assert!(declares("abbrev pub most_rows : ℕ\nmost_rows = 1", "most_rows"));
         assert!(declares("  pub record Done (t : Table) : Type 0 where", "Done"));
         assert!(!declares("own : ℕ\npub other : own", "own"));
         let text = "abbrev pub meant : Table\n  pub new-table :\npub record R : Type 0 where";

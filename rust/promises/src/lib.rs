@@ -48,12 +48,13 @@ pub fn folder(name: &str) -> PathBuf {
     root().join("crates").join(name)
 }
 
-/// The crates of `crates.txt` up to the one with the exported calls, and the programs behind it.
+/// The crates of `crates.txt` up to the one with the exported calls, and the programs behind it. A line is `name: ..`,
+/// or `name staticlib: ..` for a crate that is built as an archive.
 pub fn crates() -> (Vec<String>, Vec<String>) {
     let list = read(&root().join("crates.txt"));
     let lines = list.lines().filter(|line| !line.starts_with('#'));
-    let mut library: Vec<String> =
-        lines.filter_map(|line| Some(line.split_once(':')?.0.to_string())).collect();
+    let names = lines.filter_map(|line| line.split_once(':')?.0.split_whitespace().next());
+    let mut library: Vec<String> = names.map(str::to_string).collect();
     let exports =
         library.iter().position(|name| name == "plan_c").expect("the crate of the exported calls");
     let programs = library.split_off(exports + 1);

@@ -49,8 +49,8 @@ fn each_limit_is_written_once_in_code_and_once_in_definitions() {
     let expected = [
         "crates/plan/src/lib.rt: pub const MOST: usize = 1024;",
         "crates/plan/src/lib.rt: pub const MOST_ROWS: usize = 65535;",
-        "crates/plan/specs/Call.antt: mostRecords = 1024",
-        "crates/plan/specs/Table.antt: mostRows = 65535",
+        "crates/plan/specs/Call.antt: most_records = 1024",
+        "crates/plan/specs/Table.antt: most_rows = 65535",
     ];
     nothing_in(found.iter().filter(|line| !expected.contains(&line.as_str())).cloned());
     assert_eq!(found.len(), expected.len(), "each of these once: {expected:#?}");
@@ -61,8 +61,8 @@ fn no_definition_rests_on_a_proof() {
     let mut wrong = Vec::new();
     for (file, mark) in of(&crates().0).into_iter().filter(|(_, mark)| *mark == "--") {
         let text = without_comments(&read(&file), mark);
-        let uses =
-            text.lines().filter(|line| line.contains("use Rattle·") && line.contains("proofs."));
+        let own = |line: &&str| line.contains("use Rattle.") && !line.contains("use Rattle.std.");
+        let uses = text.lines().filter(own).filter(|line| line.contains(".proofs."));
         wrong.extend(uses.map(|line| format!("{}: {line}", short(&file))));
     }
     nothing_in(wrong);

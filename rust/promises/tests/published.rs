@@ -5,8 +5,11 @@ use promises::page::{contracts, functions as listed, name, names, published, tab
 use promises::{crates, files, folder, nothing_in, read};
 use std::collections::BTreeSet;
 
-/// The libraries of the kit that a contract may cite.
-const KIT: [&str; 6] = ["mathlib", "lib", "Prim", "native", "denote", "borrow"];
+/// The definitions of the kit, which a contract may cite.
+const KIT: &str = "Rattle.std.specs.";
+
+/// The definitions in `plan`.
+const PLAN: &str = "Rattle.plan.specs.";
 
 const CALLS: &str = "Published calls";
 const ELSEWHERE: &str = "Definitions that stand elsewhere";
@@ -50,14 +53,8 @@ fn same(code: &Names, page: &Names) {
 }
 
 /// Is a module of the logic one of the kit's, or of the definitions in `plan`?
-fn in_plan_or_kit(own: &str, module: &str) -> bool {
-    let inside = own == "plan" && module.starts_with("Rattle·plan·specs.specs.");
-    inside || module.starts_with("Rattle·plan.specs.") || KIT.contains(&crate_of_module(module))
-}
-
-/// The library of a module.
-fn crate_of_module(module: &str) -> &str {
-    module.split('.').next().expect("a library")
+fn in_plan_or_kit(module: &str) -> bool {
+    [PLAN, KIT].iter().any(|folder| module.starts_with(folder))
 }
 
 /// What a call's contract cites, by the name that it has where it is defined, with that place.
@@ -69,8 +66,7 @@ fn cited(call: &Function) -> Vec<(&str, &str)> {
 
 /// What a call cites or answers that stands neither in `plan` nor in the kit.
 fn elsewhere(call: &Function) -> Vec<&str> {
-    let own = crate_of(&call.name);
-    let cited = cited(call).into_iter().filter(|(_, module)| !in_plan_or_kit(own, module));
+    let cited = cited(call).into_iter().filter(|(_, module)| !in_plan_or_kit(module));
     let plain = !call.answers.contains(char::is_uppercase);
     let answer = (!plain && !call.uses.contains(&format!("plan::{}", call.answers)))
         .then_some(call.answers.as_str());

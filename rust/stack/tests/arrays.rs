@@ -9,8 +9,9 @@ const MOST: usize = 128;
 fn crates(root: &Path) -> Vec<PathBuf> {
     let list = fs::read_to_string(root.join("crates.txt")).expect("the list of crates");
     let lines = list.lines().filter(|line| !line.starts_with('#'));
-    let mut names: Vec<&str> = lines.filter_map(|line| Some(line.split_once(':')?.0)).collect();
-    let last = names.iter().position(|&name| name == "plan_c").expect("the exported crate");
+    let name = |line: &str| line.split_once(':')?.0.split_whitespace().next().map(str::to_string);
+    let mut names: Vec<String> = lines.filter_map(name).collect();
+    let last = names.iter().position(|name| name == "plan_c").expect("the exported crate");
     names.truncate(last + 1);
     names.into_iter().map(|name| root.join("crates").join(name).join("src")).collect()
 }

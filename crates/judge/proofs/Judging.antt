@@ -32,6 +32,23 @@ module _ (t i : Table) {v : Verdict} (e : v ≡ test (even t) 1 0 0) where
   pub second-even : {w : Verdict} → v ≡ Passed → w ≡ test (even i) 1 0 0 → w ≡ test (even t && even i) 1 0 0
   second-even h k = k ∙ rw (passed-told (even t) 1 0 0 e h)
 
+-- ---- tests 1 to 3: what failed is handed on
+module _ (t i : Table) (n : ℕ) (v1 : Verdict) (columns : v1 ≡ test (even t && even i) 1 0 0) where
+  pub hand_columns : (b q d : ℕ) → v1 ≡ Failed b q d → v1 ≡ first_tests t i n
+  hand_columns b q d e =
+      let m = failed_told (even t && even i) 1 0 0 columns e in
+      rw m (rw m at columns)
+
+  module _ (p1 : v1 ≡ Passed) (v2 : Verdict) (tree : v2 ≡ test (sound t) 2 0 0) where
+    pub hand_table : (b q d : ℕ) → v2 ≡ Failed b q d → v2 ≡ first_tests t i n
+    hand_table b q d e =
+        let m = failed_told (sound t) 2 0 0 tree e in
+        rw (test_true (even t && even i) 1 0 0 (sym columns ∙ p1), m) (rw m at tree)
+
+    pub hand_length : v2 ≡ Passed → (v3 : Verdict) → v3 ≡ test (leb n most_records) 3 0 0 → v3 ≡ first_tests t i n
+    hand_length p2 v3 records =
+        rw (test_true (even t && even i) 1 0 0 (sym columns ∙ p1), test_true (sound t) 2 0 0 (sym tree ∙ p2)) records
+
 -- ---- tests 1 to 9
 then-then : (u v w : Verdict) → then u (then v w) ≡ then (then u v) w
 then-then Passed v w = refl

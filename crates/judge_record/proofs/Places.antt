@@ -37,6 +37,18 @@ module _ (dist size : List ℕ) (p q : ℕ) where
   q_end = q + get_or size q 0
 
   -- ---- the test in constant time
+  pub quick_end : p ≡ q_end → quick_place dist size p q ≡ true
+  quick_end h = rw (eq-eqb p q_end h)
+
+  pub quick_past : (p ≡ q_end → ⊥) → length size ≤ p → quick_place dist size p q ≡ false
+  quick_past h l = rw (ne_eqb p q_end h, le-ltb p (length size) l)
+
+  pub quick_other : (p ≡ q_end → ⊥) → p < length size → (q + get_or dist p 0 ≡ p → ⊥) → quick_place dist size p q ≡ false
+  quick_other h l k = rw (ne_eqb p q_end h, lt-ltb p (length size) l, ne_eqb (q + get_or dist p 0) p k)
+
+  pub quick_child : (p ≡ q_end → ⊥) → p < length size → q + get_or dist p 0 ≡ p → quick_place dist size p q ≡ true
+  quick_child h l k = rw (ne_eqb p q_end h, lt-ltb p (length size) l, eq-eqb (q + get_or dist p 0) p k)
+
   quick_told : (value : List ℕ) → T (quick_place dist size p q) ↔ QuickPlace (table dist size value) p q
   quick_told value = (
     T-or (eqb p q_end) (ltb p (length size) && eqb (q + get_or dist p 0) p) (λ t. inl (eqb→eq p q_end t))
@@ -124,6 +136,19 @@ no_row-ends size r l =
     let z : r.location + 0 ≡ r.location = omega arith in
     cond_elim (λ (x : ℕ). old_pre r.location ≡ old_pre (r.location + x)) (removes_rows r)
     (get_or size r.location 0) 0 (λ e. rw (get_or-eq_default size 0 l, z)) (λ e. rw z)
+
+-- ---- an insert's open place
+module _ (dist size : List ℕ) (r : Record) where
+  pub no_insert : (r.kind ≡ 2 → ⊥) → open_for dist size r ≡ false
+  no_insert k = rw (ne_eqb r.kind 2 k)
+
+  pub no_parent : r.kind ≡ 2 → length size ≤ r.parent → open_for dist size r ≡ false
+  no_parent k l = rw (eq-eqb r.kind 2 k, le-ltb r.parent (length size) l)
+
+  pub under_parent : (p q : ℕ) → r.kind ≡ 2 → p ≡ r.location → q ≡ r.parent → q < length size
+      → quick_place dist size p q ≡ open_for dist size r
+  under_parent p q k e w l =
+      rw (eq-eqb r.kind 2 k, ← w, ← e, lt-ltb q (length size) l)
 
 -- ---- test 5, by what the record finds
 -- test 5 without the tree

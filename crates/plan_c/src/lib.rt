@@ -27,16 +27,14 @@ use table::sound::soundness;
 use table::walk::{start_walk, step};
 
 // Is the table sound?
-#[unsafe(no_mangle)]
-pub extern "C" fn plan_soundness(dist: &[u32], size: &[u32], value: &[u32]) -> Answer
+pub fn plan_soundness(dist: &[u32], size: &[u32], value: &[u32]) -> Answer
     ensures { result ≡ soundness_of (table dist.now size.now value.now) }
 {
     soundness(dist, size, value)
 }
 
 // The parent of a row; none for row 0.
-#[unsafe(no_mangle)]
-pub extern "C" fn plan_parent(dist: &[u32], size: &[u32], value: &[u32], row: u32) -> PlanRow
+pub fn plan_parent(dist: &[u32], size: &[u32], value: &[u32], row: u32) -> PlanRow
     ensures { let t = table dist.now size.now value.now in
         result ≡ row_of (parent_of t row) }
 {
@@ -44,8 +42,7 @@ pub extern "C" fn plan_parent(dist: &[u32], size: &[u32], value: &[u32], row: u3
 }
 
 // The first child of a row, or none.
-#[unsafe(no_mangle)]
-pub extern "C" fn plan_first_child(dist: &[u32], size: &[u32], value: &[u32], row: u32) -> PlanRow
+pub fn plan_first_child(dist: &[u32], size: &[u32], value: &[u32], row: u32) -> PlanRow
     ensures { let t = table dist.now size.now value.now in
         result ≡ row_of (first_child t row) }
 {
@@ -53,8 +50,7 @@ pub extern "C" fn plan_first_child(dist: &[u32], size: &[u32], value: &[u32], ro
 }
 
 // The next sibling of a row, or none.
-#[unsafe(no_mangle)]
-pub extern "C" fn plan_next_sibling(dist: &[u32], size: &[u32], value: &[u32], row: u32) -> PlanRow
+pub fn plan_next_sibling(dist: &[u32], size: &[u32], value: &[u32], row: u32) -> PlanRow
     ensures { let t = table dist.now size.now value.now in
         result ≡ row_of (next_sibling t row) }
 {
@@ -62,8 +58,7 @@ pub extern "C" fn plan_next_sibling(dist: &[u32], size: &[u32], value: &[u32], r
 }
 
 // The rows of one subtree: where that part of the columns starts, and how long it is.
-#[unsafe(no_mangle)]
-pub extern "C" fn plan_subtree(dist: &[u32], size: &[u32], value: &[u32], row: u32) -> PlanPart
+pub fn plan_subtree(dist: &[u32], size: &[u32], value: &[u32], row: u32) -> PlanPart
     ensures { let t = table dist.now size.now value.now in
         result ≡ part_of (subtree_top t row) (length (values_of t row)) }
 {
@@ -73,8 +68,7 @@ pub extern "C" fn plan_subtree(dist: &[u32], size: &[u32], value: &[u32], row: u
 }
 
 // A walk over the children of a row, at its start.
-#[unsafe(no_mangle)]
-pub extern "C" fn plan_children(dist: &[u32], size: &[u32], value: &[u32], row: u32) -> PlanWalk
+pub fn plan_children(dist: &[u32], size: &[u32], value: &[u32], row: u32) -> PlanWalk
     ensures { let t = table dist.now size.now value.now in
         result ≡ walk_of (walk_start t row) }
 {
@@ -82,16 +76,14 @@ pub extern "C" fn plan_children(dist: &[u32], size: &[u32], value: &[u32], row: 
 }
 
 // One step of a child walk over the size column.
-#[unsafe(no_mangle)]
-pub extern "C" fn plan_child(size: &[u32], next: u64, end: u64) -> PlanStep
+pub fn plan_child(size: &[u32], next: u64, end: u64) -> PlanStep
     ensures { result ≡ step_of (step_at size.now next end) next }
 {
     step_of(step(size, next as usize, end as usize), next)
 }
 
 // One record applied, judged as a list of one.
-#[unsafe(no_mangle)]
-pub extern "C" fn plan_single(
+pub fn plan_single(
     change: Record,
     dist: &[u32],
     size: &[u32],
@@ -115,8 +107,7 @@ pub extern "C" fn plan_single(
 }
 
 // A list of records applied in one pass.
-#[unsafe(no_mangle)]
-pub extern "C" fn plan_bulk(
+pub fn plan_bulk(
     list: &[Record],
     dist: &[u32],
     size: &[u32],
@@ -147,8 +138,7 @@ pub extern "C" fn plan_bulk(
 }
 
 // What a list makes of an old row.
-#[unsafe(no_mangle)]
-pub extern "C" fn plan_old_to_new(
+pub fn plan_old_to_new(
     list: &[Record],
     dist: &[u32],
     size: &[u32],
@@ -175,8 +165,7 @@ pub extern "C" fn plan_old_to_new(
 }
 
 // Which row a new row was.
-#[unsafe(no_mangle)]
-pub extern "C" fn plan_new_to_old(
+pub fn plan_new_to_old(
     list: &[Record],
     dist: &[u32],
     size: &[u32],
@@ -204,8 +193,7 @@ pub extern "C" fn plan_new_to_old(
 }
 
 // For every old row its new number, or that it is gone.
-#[unsafe(no_mangle)]
-pub extern "C" fn plan_map_old(
+pub fn plan_map_old(
     list: &[Record],
     dist: &[u32],
     size: &[u32],
@@ -230,8 +218,7 @@ pub extern "C" fn plan_map_old(
 }
 
 // For every new row where it comes from.
-#[unsafe(no_mangle)]
-pub extern "C" fn plan_map_new(
+pub fn plan_map_new(
     list: &[Record],
     dist: &[u32],
     size: &[u32],

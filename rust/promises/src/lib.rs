@@ -48,7 +48,7 @@ pub fn folder(name: &str) -> PathBuf {
     root().join("crates").join(name)
 }
 
-/// The crates of `crates.txt` up to the one with the exported calls, and the programs behind it. A line is `name: ..`,
+/// The crates of `crates.txt` up to the one with the exports, and the programs behind it. A line is `name: ..`,
 /// or `name staticlib: ..` for a crate that is built as an archive.
 pub fn crates() -> (Vec<String>, Vec<String>) {
     let list = read(&root().join("crates.txt"));
@@ -56,7 +56,7 @@ pub fn crates() -> (Vec<String>, Vec<String>) {
     let names = lines.filter_map(|line| line.split_once(':')?.0.split_whitespace().next());
     let mut library: Vec<String> = names.map(str::to_string).collect();
     let exports =
-        library.iter().position(|name| name == "plan_c").expect("the crate of the exported calls");
+        library.iter().position(|name| name == "plan_archive").expect("the crate of the exports");
     let programs = library.split_off(exports + 1);
     (library, programs)
 }

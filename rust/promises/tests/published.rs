@@ -123,11 +123,17 @@ fn the_definitions_beside_a_call_stand_in_the_one_folder() {
 }
 
 #[test]
-fn every_exported_call_is_published() {
-    let exported = named(library(), |function| function.exported);
-    assert!(exported.len() >= 13);
-    let published = published(&contracts());
-    nothing_in(exported.into_iter().filter(|name| !published.contains(name)));
+fn the_exports_are_the_published_calls_for_c_with_their_clauses() {
+    let told = |function: &Function| {
+        let name = function.name.rsplit("::").next().unwrap_or_default();
+        let clauses = function.ensures.as_deref().unwrap_or_default();
+        format!("{name} -> {}\n{clauses}", function.answers)
+    };
+    let exports: Names = library().iter().filter(|function| function.exported).map(told).collect();
+    assert!(exports.len() >= 13);
+    let calls = calls();
+    let for_c = calls.iter().filter(|call| crate_of(&call.name) == "plan_c");
+    same(&exports, &for_c.map(told).collect());
 }
 
 #[test]

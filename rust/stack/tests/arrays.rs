@@ -5,13 +5,14 @@ use std::path::{Path, PathBuf};
 
 const MOST: usize = 128;
 
-/// The crates from the first to the one with the exported calls.
+/// The crates from the first to the one with the exports.
 fn crates(root: &Path) -> Vec<PathBuf> {
     let list = fs::read_to_string(root.join("crates.txt")).expect("the list of crates");
     let lines = list.lines().filter(|line| !line.starts_with('#'));
     let name = |line: &str| line.split_once(':')?.0.split_whitespace().next().map(str::to_string);
     let mut names: Vec<String> = lines.filter_map(name).collect();
-    let last = names.iter().position(|name| name == "plan_c").expect("the exported crate");
+    let last =
+        names.iter().position(|name| name == "plan_archive").expect("the crate of the exports");
     names.truncate(last + 1);
     names.into_iter().map(|name| root.join("crates").join(name).join("src")).collect()
 }

@@ -9,7 +9,7 @@ use lib.Dec.{leb}
 use lib.ListN.{length}
 use borrow.Author.Tests.{leb-true}
 use Rattle.plan.specs.declared.Record.{Record}
-use Rattle.plan.specs.declared.Before.TheVariants.{Nothing}
+use Rattle.std.specs.Prelude.{None}
 use Rattle.plan.specs.declared.Stand.{Stand}
 use Rattle.plan.specs.declared.Verdict.{Verdict}
 use Rattle.plan.specs.declared.Verdict.TheVariants.{Passed, Failed}
@@ -59,7 +59,7 @@ module _ (t i : Table) (l : List Record) where
   abbrev later_tests : Verdict
   later_tests =
       let rows = count (result t i l) in
-      then (tested (plan old t) i 0 Nothing l) (test (leb rows most_rows) 9 0 rows)
+      then (tested (plan old t) i 0 None l) (test (leb rows most_rows) 9 0 rows)
 
   -- tests 1 to 9 are the first three and the later ones
   pub judged-first : judged (even t && even i) t i l ≡ then (first_tests t i (length l)) later_tests
@@ -76,7 +76,7 @@ module _ (t i : Table) (n : ℕ) (v : Verdict) (e : v ≡ first_tests t i n) whe
   begun-refused a p c w =
       record { whole = λ l m. record { stage = judged-first t i l ∙ rw (m, sym e ∙ w) } }
 
-  pub begun_going : (x : Stand) → v ≡ Passed → x ≡ start → Begun t i n (Going Nothing x 0)
+  pub begun_going : (x : Stand) → v ≡ Passed → x ≡ start → Begun t i n (Going None x 0)
   begun_going x w f =
       let a = then-passed (test (even t && even i) 1 0 0) _ (sym e ∙ w) in
       let b = then-passed (test (sound t) 2 0 0) (test (leb n most_records) 3 0 0) a.1 in

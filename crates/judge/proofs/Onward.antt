@@ -13,8 +13,7 @@ use borrow.Author.Tests.{ne_eqb, le-leb}
 use Rattle.plan.specs.declared.Record.{Record}
 use Rattle.plan.specs.declared.Place.{Place}
 use Rattle.plan.specs.declared.Stand.{Stand}
-use Rattle.plan.specs.declared.Before.{Before}
-use Rattle.plan.specs.declared.Before.TheVariants.{Nothing, After}
+use Rattle.std.specs.Prelude.{Option, Some, None}
 use Rattle.plan.specs.declared.Verdict.TheVariants.{Passed, Failed}
 use Rattle.plan.specs.Tree.{Forest, count}
 use Rattle.plan.specs.Table.{Table, even, sound, most_rows}
@@ -42,7 +41,7 @@ use Rattle.judge.proofs.Judging.{judged-first}
 -- ---- an exam by its cases
 module _ {t i : Table} {l : List Record} {e : Exam} {rs : List Record} (h : On t i l e rs) where
   -- where it goes on
-  pub going : {b : Before} {s : Stand} {k : ℕ} → e ≡ Going b s k → Along t i l b s k rs
+  pub going : {b : Option Record} {s : Stand} {k : ℕ} → e ≡ Going b s k → Along t i l b s k rs
   going q = subst (λ (z : Exam). Stage t i l z rs) q h.stage
 
   -- where it is refused
@@ -67,17 +66,17 @@ failed_number zero k t e w = let z : ◌≡◌ {A = ℕ} 0 1 = cc in absurd (ome
 failed_number (suc n) k t e w = (omega arith, cc)
 
 module _ {A : Type 0} (f : Forest A) (i : Table) where
-  tested-next : (j : ℕ) (b : Before) (r : Record) (rs : List Record) → failing f i b r ≡ 0
-      → tested f i j b (r ∷ rs) ≡ tested f i (suc j) (After r) rs
+  tested-next : (j : ℕ) (b : Option Record) (r : Record) (rs : List Record) → failing f i b r ≡ 0
+      → tested f i j b (r ∷ rs) ≡ tested f i (suc j) (Some r) rs
   unfolding tested
   tested-next j b r rs e = rw e
 
-  tested-fails : (j k : ℕ) (b : Before) (r : Record) (rs : List Record) → failing f i b r ≡ k → 0 < k
+  tested-fails : (j k : ℕ) (b : Option Record) (r : Record) (rs : List Record) → failing f i b r ≡ k → 0 < k
       → tested f i j b (r ∷ rs) ≡ Failed k j 0
   unfolding tested
   tested-fails j k b r rs e h = rw (e, ne_eqb k 0 (λ w. omega arith))
 
-  tested-none : (j : ℕ) (b : Before) → tested f i j b [] ≡ Passed
+  tested-none : (j : ℕ) (b : Option Record) → tested f i j b [] ≡ Passed
   unfolding tested
   tested-none j b = refl
 
@@ -90,7 +89,7 @@ stands-more size isize s (q ∷ ps) r =
     stands-more size isize (behind s (meeting s q (goes_on_at size q) (brought isize q))) ps r
 
 -- ---- on the way
-module _ {t i : Table} {l : List Record} {b : Before} {s : Stand} {k : ℕ} {rs : List Record}
+module _ {t i : Table} {l : List Record} {b : Option Record} {s : Stand} {k : ℕ} {rs : List Record}
     (h : Along t i l b s k rs) where
   abbrev tree : Forest Painted
   tree = plan old t
@@ -102,8 +101,8 @@ module _ {t i : Table} {l : List Record} {b : Before} {s : Stand} {k : ℕ} {rs 
   both_even = T_and (even t) (even i) h.columns-even
 
   -- the tests of the list are those of the records that are left
-  tests_left : tested tree i 0 Nothing l ≡ tested tree i k b rs
-  tests_left = ap (tested tree i 0 Nothing) h.whole ∙ h.tests rs
+  tests_left : tested tree i 0 None l ≡ tested tree i k b rs
+  tests_left = ap (tested tree i 0 None) h.whole ∙ h.tests rs
 
   -- tests 1 to 3 passed
   judged-left : judged (even t && even i) t i l ≡ then (tested tree i k b rs) (test (leb rows most_rows) 9 0 rows)
@@ -127,11 +126,11 @@ module _ {t i : Table} {l : List Record} {b : Before} {s : Stand} {k : ℕ} {rs 
         table-sound = h.table-sound;
         insertions-even = both_even.1;
         few = omega (arith, all_records, h.few, h.places, length-append h.done qs);
-        passed = tested-passes tree i 0 Nothing (h.done ++ qs) (h.tests qs ∙ e);
+        passed = tested-passes tree i 0 None (h.done ++ qs) (h.tests qs ∙ e);
       }
 
 -- ---- the next record
-module _ {t i : Table} {l : List Record} {b : Before} {s : Stand} {k : ℕ} {r : Record} {rs : List Record}
+module _ {t i : Table} {l : List Record} {b : Option Record} {s : Stand} {k : ℕ} {r : Record} {rs : List Record}
     (h : Along t i l b s k (r ∷ rs)) where
   abbrev f : Forest Painted
   f = plan old t
@@ -166,7 +165,7 @@ module _ {t i : Table} {l : List Record} {b : Before} {s : Stand} {k : ℕ} {r :
       none-fails = passed_zero (failing f i b r) m (right f found) w
 
       alone-passes : tested f i k b (r ∷ []) ≡ Passed
-      alone-passes = tested-next f i k b r [] none-fails ∙ tested-none f i (suc k) (After r)
+      alone-passes = tested-next f i k b r [] none-fails ∙ tested-none f i (suc k) (Some r)
 
       -- with it, too, the records up to here are a list that passes
       passing_here : Passes t i (h.done ++ (r ∷ []))
@@ -187,7 +186,7 @@ module _ {t i : Table} {l : List Record} {b : Before} {s : Stand} {k : ℕ} {r :
           rw e (meets t i (h.done ++ (r ∷ [])) passing_here s (length h.done) r [] way_here)
 
       -- its run passed
-      run-passed : RunTested i (After r)
+      run-passed : RunTested i (Some r)
       run-passed =
           record {
             passed = λ q e.
@@ -209,7 +208,7 @@ module _ {t i : Table} {l : List Record} {b : Before} {s : Stand} {k : ℕ} {r :
 
       -- the exam goes on behind it
       pub goes_on : {n : ℕ} {s' : Stand} → n ≡ brought i.size r → s' ≡ behind s (meeting s r p.end.0 n)
-          → On t i l (Going (After r) s' (k + 1)) rs
+          → On t i l (Going (Some r) s' (k + 1)) rs
       goes_on {n} {s'} e c =
           record {
             stage =
@@ -228,7 +227,7 @@ module _ {t i : Table} {l : List Record} {b : Before} {s : Stand} {k : ℕ} {r :
           }
 
 -- ---- behind the last record
-module _ {t i : Table} {l : List Record} {b : Before} {s : Stand} {k : ℕ} (h : Along t i l b s k []) where
+module _ {t i : Table} {l : List Record} {b : Option Record} {s : Stand} {k : ℕ} (h : Along t i l b s k []) where
   all_done : l ≡ h.done ++ []
   all_done = h.whole
 

@@ -1,9 +1,7 @@
 -- How the exam of a list goes on from record to record.
 -- Assumes nothing.
-use Rattle.std.specs.Prelude.{ℕ, ◌≤◌, ◌≡◌, ◌&&◌, List, [], ◌∷◌, ◌++◌, T, length}
+use Rattle.std.specs.Prelude.{ℕ, ◌≤◌, ◌≡◌, ◌&&◌, List, [], ◌∷◌, ◌++◌, T, length, Option, None}
 use Rattle.plan.specs.declared.Record.{Record}
-use Rattle.plan.specs.declared.Before.{Before}
-use Rattle.plan.specs.declared.Before.TheVariants.{Nothing}
 use Rattle.plan.specs.declared.Stand.{Stand}
 use Rattle.plan.specs.declared.Verdict.TheVariants.{Failed}
 use Rattle.plan.specs.Table.{Table, table, even, sound}
@@ -19,7 +17,7 @@ use Rattle.plan.specs.Call.{published_of}
 
 -- the exam goes on: tests 1 to 3 passed, and so did the records up to here; the rows go on where these leave them, and
 -- what is left of the tests is what the records behind say
-pub record Along (t i : Table) (l : List Record) (before : Before) (s : Stand) (passed : ℕ) (rs : List Record)
+pub record Along (t i : Table) (l : List Record) (before : Option Record) (s : Stand) (passed : ℕ) (rs : List Record)
     : Type 0 where
   pub columns-even : T (even t && even i)
   pub table-sound : T (sound t)
@@ -28,7 +26,7 @@ pub record Along (t i : Table) (l : List Record) (before : Before) (s : Stand) (
   pub whole : l ≡ done ++ rs
   pub places : length done ≡ passed
   pub tests : (qs : List Record)
-      → tested (plan old t) i 0 Nothing (done ++ qs) ≡ tested (plan old t) i passed before qs
+      → tested (plan old t) i 0 None (done ++ qs) ≡ tested (plan old t) i passed before qs
   pub stood : s ≡ stands t.size i.size start done
   pub run-tested : RunTested i before
 

@@ -10,14 +10,14 @@ ghost use Rattle.judge.specs.Underway.{wanted, Begun, Next, Taken, Last, Finishe
 use judge_record::place::place_of;
 use judge_record::way::{onward, run_rows};
 use judge_record::{Trial, tried};
-use plan::{Answer, Before, Judgement, Record, Stand, Verdict, wide};
+use plan::{Answer, Judgement, Record, Stand, Verdict, wide};
 use table::sound::test_sound;
 use table::test_even;
 
 // An exam of a list under way: the record before, where the rows go on, how many records passed; or the refusal.
 #[derive(Clone, Copy)]
 pub enum Exam {
-    Going(Before, Stand, usize),
+    Going(Option<Record>, Stand, usize),
     Refused(u32, u32, u64),
 }
 
@@ -103,7 +103,7 @@ pub fn begin(
     let v = first_tests(records, dist, size, value, idist, isize, ivalue);
     match v {
         Verdict::Failed(number, place, count) => Exam::Refused(number, place, count),
-        Verdict::Passed => Exam::Going(Before::Nothing, Stand::start(), 0),
+        Verdict::Passed => Exam::Going(None, Stand::start(), 0),
     }
 }
 
@@ -140,7 +140,7 @@ pub fn next(
         Trial::Failed(number) => Exam::Refused(number, passed as u32, 0),
         Trial::Passed => {
             let next = onward(stand, r, place.end, run_rows(isize, r));
-            Exam::Going(Before::After(r), next, passed + 1)
+            Exam::Going(Some(r), next, passed + 1)
         }
     }
 }

@@ -8,8 +8,7 @@ use lib.Dec.{eqb}
 use lib.ListN.{length, take, drop, get_or}
 use borrow.Author.Tests.{lt-ltb, le-ltb, le-leb, lt-leb, eqb-true}
 use Rattle.plan.specs.declared.Record.{Record}
-use Rattle.plan.specs.declared.Before.{Before}
-use Rattle.plan.specs.declared.Before.TheVariants.{Nothing, After}
+use Rattle.std.specs.Prelude.{Option, Some, None}
 use Rattle.plan.specs.Table.{Table, table, sound, run}
 use Rattle.plan.specs.Records.{is_insert, is_replace, runs}
 use Rattle.plan.proofs.Kit.{true_of}
@@ -50,10 +49,10 @@ module _ (i : Table) (r : Record) where
   own_run f e h = rw (h, e)
 
 -- the run of the record before passed the test, and so does the same run again
-pub run_again : (i : Table) (b : Before) (r : Record) → RunTested i b → (is_insert r || is_replace r) ≡ true
+pub run_again : (i : Table) (b : Option Record) (r : Record) → RunTested i b → (is_insert r || is_replace r) ≡ true
     → same_run b r ≡ true → runs i r ≡ true
-run_again i Nothing r w h e = let z : ◌≡◌ {A = ℕ} 0 1 = cc in absurd (omega arith)
-run_again i (After p) r w h e =
+run_again i None r w h e = let z : ◌≡◌ {A = ℕ} 0 1 = cc in absurd (omega arith)
+run_again i (Some p) r w h e =
     let both = and_true (is_insert p || is_replace p) (eqb p.from r.from) e in
     own_run i r r.from refl h
     ∙ sym (own_run i p r.from (sym (eqb-true p.from r.from both.1)) both.0)

@@ -5,7 +5,7 @@ use native.Mathlib.Omega.{arith}
 use mathlib.Core.Path.{◌≡◌, refl}
 use mathlib.Core.Bool.{Bool, true, false, not, cond}
 use Rattle.plan.specs.declared.Record.{Record}
-use Rattle.plan.specs.declared.Before.{Before}
+use Rattle.std.specs.Prelude.{Option}
 use Rattle.plan.specs.declared.Place.{Place}
 use Rattle.plan.specs.Tree.{Forest}
 use Rattle.plan.specs.Table.{Table}
@@ -26,7 +26,7 @@ failed_told true n k t e w = let z : ◌≡◌ {A = ℕ} 0 1 = cc in absurd (ome
 failed_told false n k t e w = refl
 
 -- the answer of a test that failed is handed on, behind those that passed
-module _ (p : Place) (i : Table) (b : Before) (r : Record) (t4 : Trial) (kind : t4 ≡ trial (known r) 4) where
+module _ (p : Place) (i : Table) (b : Option Record) (r : Record) (t4 : Trial) (kind : t4 ≡ trial (known r) 4) where
   pub hand_kind : (k : ℕ) → t4 ≡ Failed k → RightTrial p i b r t4
   unfolding failing
   hand_kind k e f e' = let m = failed_told (known r) 4 k t4 kind e in rw m (rw m at kind)

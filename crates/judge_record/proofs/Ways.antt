@@ -11,8 +11,7 @@ use lib.ListN.{length, get_or, drop, length-drop, length-append}
 use lib.Seq.{length-take-le, drop-drop, drop_at, get_or-drop}
 use borrow.Author.Tests.{ne_eqb}
 use Rattle.plan.specs.declared.Record.{Record}
-use Rattle.plan.specs.declared.Before.{Before}
-use Rattle.plan.specs.declared.Before.TheVariants.{Nothing, After}
+use Rattle.std.specs.Prelude.{Option, Some, None}
 use Rattle.plan.specs.declared.Stand.{Stand}
 use Rattle.plan.specs.declared.Meeting.{Meeting}
 use Rattle.plan.specs.declared.Meeting.TheVariants.{Vain, Renamed, Here}
@@ -46,7 +45,7 @@ pub record Passes (t i : Table) (l : List Record) : Type 0 where
   pub table-sound : T (sound t)
   pub insertions-even : T (even i)
   pub few : length l ≤ most_records
-  pub passed : PassAll (plan old t) i Nothing l
+  pub passed : PassAll (plan old t) i None l
 
 -- ---- a record that passed
 -- a sound table has few rows, and so has a run
@@ -148,7 +147,7 @@ module _ (t i : Table) (l : List Record) (p : Passes t i l) where
 
   -- the way stands right before record j, and the records rs are left
   pub record Way (s : Stand) (j : ℕ) (rs : List Record) : Type 0 where
-    pub before : Before
+    pub before : Option Record
     pub passes : PassAll tree i before rs
     pub goes : Goes tree i rows p.insertions-even s.row.0 s.first.0 s.end.0 j rs
     pub few : s.out.0 ≤ j * 131070
@@ -178,8 +177,8 @@ module _ (t i : Table) (l : List Record) (p : Passes t i l) where
   fair =
       record {
         even-columns = even-table;
-        places = all_located tree i Nothing l p.passed;
-        order = all_ordered tree i Nothing l p.passed;
+        places = all_located tree i None l p.passed;
+        order = all_ordered tree i None l p.passed;
       }
 
   same_kept : trimmed tree 0 0 (changes i 0 l) ≡ kept_of t i l
@@ -191,7 +190,7 @@ module _ (t i : Table) (l : List Record) (p : Passes t i l) where
   pub way_start : Way start 0 l
   way_start =
       record {
-        before = Nothing;
+        before = None;
         passes = p.passed;
         goes = rw same_kept (kept_follow t i l fair);
         few = omega arith;
@@ -251,7 +250,7 @@ module _ (t i : Table) (l : List Record) (p : Passes t i l) where
         let os : List Origin = origins (result t i l) in
         let there : s.out.0 + (s'.out.0 - s.out.0) ≡ s'.out.0 = omega arith in
         record {
-          before = After r;
+          before = Some r;
           passes = w.passes.1;
           goes = g;
           few = omega (arith, w.few);

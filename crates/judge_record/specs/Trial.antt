@@ -1,10 +1,8 @@
 -- What the tests of one record answer.
 -- Assumes nothing.
-use Rattle.std.specs.Prelude.{ℕ, zero, suc, ◌+◌, ◌≡◌, Bool, true, false, ◌&&◌, ◌||◌, List, T, leb, ltb, eqb, length, get_or}
+use Rattle.std.specs.Prelude.{ℕ, zero, suc, ◌+◌, ◌≡◌, Bool, true, false, ◌&&◌, ◌||◌, List, T, leb, ltb, eqb, length, get_or, Option, Some, None}
 use Rattle.plan.specs.declared.Record.{Record}
 use Rattle.plan.specs.declared.Place.{Place}
-use Rattle.plan.specs.declared.Before.{Before}
-use Rattle.plan.specs.declared.Before.TheVariants.{Nothing, After}
 use Rattle.plan.specs.Table.{Table, table, sound, run}
 use Rattle.plan.specs.Tree.{Forest}
 use Rattle.plan.specs.Paint.{Painted, old, plan}
@@ -54,18 +52,18 @@ run_at i f =
     ltb f m && (leb (f + get_or i.size f 0) m && sound (run i f))
 
 -- does the record before bring the same run?
-abbrev pub same_run : Before → Record → Bool
-same_run Nothing r = false
-same_run (After p) r = (is_insert p || is_replace p) && eqb p.from r.from
+abbrev pub same_run : Option Record → Record → Bool
+same_run None r = false
+same_run (Some p) r = (is_insert p || is_replace p) && eqb p.from r.from
 
 -- the record before passed test 6
-pub record RunTested (i : Table) (b : Before) : Type 0 where
-  pub passed : (p : Record) → b ≡ After p → T (runs i p)
+pub record RunTested (i : Table) (b : Option Record) : Type 0 where
+  pub passed : (p : Record) → b ≡ Some p → T (runs i p)
 
 -- test 5 is answered right, of every tree in which the record finds this
 abbrev pub RightPlace : Place → Record → Trial → Type 0
 RightPlace p r t = (f : Forest Painted) → p ≡ place_of f r → t ≡ trial (located f r) 5
 
 -- tests 4 to 8 are, with the insertions i and what stands before r
-abbrev pub RightTrial : Place → Table → Before → Record → Trial → Type 0
+abbrev pub RightTrial : Place → Table → Option Record → Record → Trial → Type 0
 RightTrial p i before r t = (f : Forest Painted) → p ≡ place_of f r → t ≡ outcome (failing f i before r)

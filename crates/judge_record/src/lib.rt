@@ -10,7 +10,7 @@ ghost use Rattle.judge_record.specs.Trial.{trial, Even, RunTested, RightTrial};
 use crate::order::{test_alone, test_order};
 use crate::place::test_location;
 use crate::run::test_run;
-use plan::{Before, Place, Record};
+use plan::{Place, Record};
 
 pub mod order;
 pub mod place;
@@ -43,7 +43,7 @@ pub fn tried(
     idist: &[u32],
     isize: &[u32],
     ivalue: &[u32],
-    before: Before,
+    before: Option<Record>,
     r: Record,
 ) -> Trial
     requires { let i = table idist.now isize.now ivalue.now in

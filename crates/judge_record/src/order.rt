@@ -4,13 +4,13 @@ ghost use Rattle.plan.specs.Records.{follows, alone};
 ghost use Rattle.judge_record.specs.Trial.{trial};
 
 use crate::Trial;
-use plan::{Before, Record};
+use plan::Record;
 
 // Test 7: the location is past the one before; or the same, and an insert follows an insert with no smaller parent.
-pub fn test_order(before: Before, r: Record) -> Trial
+pub fn test_order(before: Option<Record>, r: Record) -> Trial
     ensures { result ≡ trial (follows before r) 7 }
 {
-    let Before::After(p) = before else {
+    let Some(p) = before else {
         return Trial::Passed;
     };
     if r.location < p.location {
@@ -32,10 +32,10 @@ pub fn test_order(before: Before, r: Record) -> Trial
 }
 
 // Test 8: of two records at one location, one is an insert.
-pub fn test_alone(before: Before, r: Record) -> Trial
+pub fn test_alone(before: Option<Record>, r: Record) -> Trial
     ensures { result ≡ trial (alone before r) 8 }
 {
-    let Before::After(p) = before else {
+    let Some(p) = before else {
         return Trial::Passed;
     };
     if p.location != r.location {

@@ -5,7 +5,7 @@ ghost use Rattle.plan.specs.Records.{is_insert, is_replace, runs};
 ghost use Rattle.judge_record.specs.Trial.{trial, run_at, same_run, Even, RunTested};
 
 use crate::Trial;
-use plan::{Before, Record, wide};
+use plan::{Record, wide};
 use table::sound;
 
 // Does it bring a run?
@@ -39,10 +39,10 @@ fn run_at(idist: &[u32], isize: &[u32], ivalue: &[u32], f: usize) -> bool
 }
 
 // Does the record before bring the same run? Then it is tested already.
-fn is_tested(before: Before, r: Record) -> bool
+fn is_tested(before: Option<Record>, r: Record) -> bool
     ensures { result ≡ same_run before r }
 {
-    let Before::After(p) = before else {
+    let Some(p) = before else {
         return false;
     };
     if !has_run(p) {
@@ -55,7 +55,7 @@ fn is_tested(before: Before, r: Record) -> bool
 }
 
 // Test 6: an insert or a replace has a run.
-pub fn test_run(idist: &[u32], isize: &[u32], ivalue: &[u32], before: Before, r: Record) -> Trial
+pub fn test_run(idist: &[u32], isize: &[u32], ivalue: &[u32], before: Option<Record>, r: Record) -> Trial
     requires { let i = table idist.now isize.now ivalue.now in Even i × RunTested i before }
     ensures { let i = table idist.now isize.now ivalue.now in
         result ≡ trial (runs i r) 6 }

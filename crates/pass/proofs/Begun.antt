@@ -8,7 +8,7 @@ use lib.Dec.{T, eqb}
 use lib.Seq.{set-set}
 use borrow.Author.Tests.{eq-eqb, ne_eqb, eqb-true, eqb-false}
 use Rattle.plan.specs.declared.Record.{Record}
-use Rattle.plan.specs.declared.Before.TheVariants.{Nothing}
+use Rattle.std.specs.Prelude.{None}
 use Rattle.plan.specs.Table.{Table}
 use Rattle.plan.specs.Change.{Change, skip}
 use Rattle.plan.specs.Paint.{old, plan}
@@ -80,7 +80,7 @@ module _ {t i : Table} {l : List Record} {w : Table} (A : Given t i l w) where
         (λ e. rw (valued-replace i r e) (rw (ne_eqb r.location 0 n)))
 
   -- ---- the machine starts where the pass begins
-  starts : (rs : List Record) → PassAll (plan old t) i Nothing rs
+  starts : (rs : List Record) → PassAll (plan old t) i None rs
       → onward i (rowed w 0 1 0 (value_at t 0)) (cursor (stand 1 1 0 0) 0 0 0) rs ≡ start (tree_of A).root (values i rs)
   unfolding skip
   starts [] h = root-state a [] ∙ ap (λ (v : ℕ). begun v []) root-value
@@ -96,15 +96,15 @@ module _ {t i : Table} {l : List Record} {w : Table} (A : Given t i l w) where
       ∙ (ap (λ (v : ℕ). begun v (values i (r ∷ rs))) root-value
       ∙ sym (start-later r (values i rs) h.0.kind-known h.0.in_place (eqb-false r.location 0 e))))
 
-  past-root : (rs : List Record) → PassAll (plan old t) i Nothing rs → All (λ r. 0 < r.location) (behind_first rs)
+  past-root : (rs : List Record) → PassAll (plan old t) i None rs → All (λ r. 0 < r.location) (behind_first rs)
   past-root [] h = tt
-  past-root (r ∷ rs) h = behind-root (plan old t) i Nothing r rs h
+  past-root (r ∷ rs) h = behind-root (plan old t) i None r rs h
 
   pub underway-begun : Underway t i l w (rowed w 0 1 0 (value_at t 0)) (cursor (stand 1 1 0 0) 0 0 0) l
   underway-begun =
       record {
         given = A;
-        before = Nothing;
+        before = None;
         passes = A.passes;
         past-root = past-root l A.passes;
         values = t.value;

@@ -7,7 +7,7 @@ use mathlib.Core.List.{List}
 use lib.Dec.{T, eqb, eqb→eq}
 use lib.ListN.{length, get_or}
 use Rattle.plan.specs.declared.Record.{Record}
-use Rattle.plan.specs.declared.Before.TheVariants.{Nothing}
+use Rattle.std.specs.Prelude.{None}
 use Rattle.plan.specs.Tree.{Forest, none, tree, count, relabel}
 use Rattle.plan.specs.Table.{Table, even, TreeOf}
 use Rattle.plan.specs.Change.{Change, meaning}
@@ -66,7 +66,7 @@ module _ {t i : Table} {l : List Record} {w : Table} (A : Given t i l w) where
   fit = subst (λ (f : Forest ℕ). Fit 0 0 f (values i l)) (plain-tree tree_of) (values_fit t i l A.passes)
 
   root-first : T (rooted (values i l))
-  root-first = values_rooted (plan old t) i Nothing l A.passes
+  root-first = values_rooted (plan old t) i None l A.passes
 
   result-is : relabel bare (result t i l) ≡ meaning (values i l) (tree tree_of.root tree_of.kids none)
   result-is = result-plain t i l ∙ ap (meaning (values i l)) (plain-tree tree_of)

@@ -13,7 +13,7 @@ use borrow.Author.Tests.{eq-eqb, ne_eqb, eqb-false}
 use Rattle.plan.specs.declared.OldPre.{OldPre}
 use Rattle.plan.specs.declared.Stand.{Stand}
 use Rattle.plan.specs.declared.Record.{Record}
-use Rattle.plan.specs.declared.Before.TheVariants.{After}
+use Rattle.std.specs.Prelude.{Some}
 use Rattle.plan.specs.Table.{Table, table}
 use Rattle.plan.specs.Change.{Change, act, rename, lost, skip}
 use Rattle.plan.specs.Paint.{old, plan}
@@ -107,7 +107,7 @@ module _ {t i w u : Table} {l rs : List Record} {c : Cursor} {r : Record} (U : U
   behind_it_lem {u'} {c'} v A a s k h =
       record {
         given = U.given;
-        before = After r;
+        before = Some r;
         passes = U.passes.1;
         past-root = later_first rs U.past-root;
         values = v;
@@ -257,7 +257,7 @@ module _ {t i w u : Table} {l rs : List Record} {c : Cursor} {r : Record} (U : U
         goes_on =
             let z = U.ahead.long in
             rename-ahead g (set U.values p r.value) p r.value (values i rs)
-            (far-values (plan old t) i (After r) p rs U.passes.1 coming-on)
+            (far-values (plan old t) i (Some r) p rs U.passes.1 coming-on)
             (get_or-set_same U.values p r.value 0 (omega (arith, there.0)))
             (λ j m. get_or-set_other U.values p j r.value 0 m) from-rename refl refl (not_behind e)
 

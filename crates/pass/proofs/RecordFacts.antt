@@ -12,8 +12,7 @@ use lib.ListN.{length, get_or, drop, length-take, length-drop}
 use lib.Seq.{get_or-take, get_or-drop}
 use borrow.Author.Tests.{ne_eqb, eq-eqb}
 use Rattle.plan.specs.declared.Record.{Record}
-use Rattle.plan.specs.declared.Before.{Before}
-use Rattle.plan.specs.declared.Before.TheVariants.{After}
+use Rattle.std.specs.Prelude.{Option, Some}
 use Rattle.plan.specs.Tree.{Forest, none, tree, count, from, children}
 use Rattle.plan.specs.Table.{Table, table_of, sound, run, TreeOf}
 use Rattle.plan.specs.Change.{Change, opens, open_place, location}
@@ -117,7 +116,7 @@ run_of i r h k =
 
 -- ---- the root
 module _ {A : Type 0} (f : Forest A) (i : Table) where
-  later-not-root : (b : Before) (r r' : Record) → Passes f i b r → Passes f i (After r) r' → 0 < r'.location
+  later-not-root : (b : Option Record) (r r' : Record) → Passes f i b r → Passes f i (Some r) r' → 0 < r'.location
   unfolding follows alone
   later-not-root b r r' h h' = by_side 0 r'.location (λ l. l) (λ l. absurd (bad l))
     where
@@ -136,10 +135,10 @@ module _ {A : Type 0} (f : Forest A) (i : Table) where
           T-or (is_insert r) (is_insert r') (not_there r h.in_place (omega arith)) (not_there r' h'.in_place l) m)
           h'.by_itself) h'.in_order
 
-  pub behind-root : (b : Before) (r : Record) (rs : List Record) → PassAll f i b (r ∷ rs)
+  pub behind-root : (b : Option Record) (r : Record) (rs : List Record) → PassAll f i b (r ∷ rs)
       → All (λ x. 0 < x.location) rs
   behind-root b r [] h = tt
-  behind-root b r (r' ∷ rs) h = (later-not-root b r r' h.0 h.1.0, behind-root (After r) r' rs h.1)
+  behind-root b r (r' ∷ rs) h = (later-not-root b r r' h.0 h.1.0, behind-root (Some r) r' rs h.1)
 
   -- the first record at the root is a rename
   first_renames : (r : Record) (cs : List (Change ℕ)) → T (known r) → T (located f r) → T (rooted (valued i r ∷ cs))
@@ -153,19 +152,19 @@ module _ {A : Type 0} (f : Forest A) (i : Table) where
       away : {n : ℕ} → r.kind ≡ n → (r.kind ≡ 2 → ⊥) → (r.kind ≡ 3 → ⊥) → r.location ≡ 0 → ⊥
       away e n m z = omega (arith, (row_named f r h n).1 m)
 
-  pub values_rooted : (b : Before) (l : List Record) → PassAll f i b l → T (rooted (values i l))
+  pub values_rooted : (b : Option Record) (l : List Record) → PassAll f i b l → T (rooted (values i l))
   values_rooted b [] h = tt
   values_rooted b (r ∷ rs) h = first_renames r (values i rs) h.0.kind-known h.0.in_place
 
   -- ---- the records behind a rename are for later rows
-  not-before : (r r' : Record) → T (follows (After r) r') → r.location ≤ r'.location
+  not-before : (r r' : Record) → T (follows (Some r) r') → r.location ≤ r'.location
   unfolding follows
   not-before r r' h =
       let same : Bool = eqb r.location r'.location in
       T-or (ltb r.location r'.location) _ (λ n. omega (arith, ltb→lt r.location r'.location n))
       (λ n. omega (arith, eqb→eq r.location r'.location (T_and same _ n).0)) h
 
-  past-rename : (r r' : Record) → r.kind ≡ 3 → Passes f i (After r) r' → r.location < r'.location
+  past-rename : (r r' : Record) → r.kind ≡ 3 → Passes f i (Some r) r' → r.location < r'.location
   unfolding follows alone
   past-rename r r' k h =
       let same : Bool = eqb r.location r'.location in
@@ -180,14 +179,14 @@ module _ {A : Type 0} (f : Forest A) (i : Table) where
       T-or (not (is_insert r')) _ (λ x. T_not (is_insert r') x j) (λ x. no (T_and (is_insert r) _ x).0) w.1) m)
       h.by_itself)) h.in_order
 
-  all_past : (n : ℕ) (r : Record) (rs : List Record) → n ≤ r.location → PassAll f i (After r) rs
+  all_past : (n : ℕ) (r : Record) (rs : List Record) → n ≤ r.location → PassAll f i (Some r) rs
       → All (λ x. n ≤ x.location) rs
   all_past n r [] l h = tt
   all_past n r (r' ∷ rs) l h =
       let m : n ≤ r'.location = omega (arith, not-before r r' h.0.in_order) in
       (m, all_past n r' rs m h.1)
 
-  pub behind-rename : (r : Record) (rs : List Record) → r.kind ≡ 3 → PassAll f i (After r) rs
+  pub behind-rename : (r : Record) (rs : List Record) → r.kind ≡ 3 → PassAll f i (Some r) rs
       → All (λ x. r.location + 1 ≤ x.location) rs
   behind-rename r [] k h = tt
   behind-rename r (r' ∷ rs) k h =
@@ -199,7 +198,7 @@ module _ {A : Type 0} (f : Forest A) (i : Table) where
       by_kind r k (λ e. ap location (valued-delete i r e)) (λ e. ap location (valued-insert i r e))
       (λ e. ap location (valued-rename i r e)) (λ e. ap location (valued-replace i r e))
 
-  pub far-values : (b : Before) (n : ℕ) (rs : List Record) → PassAll f i b rs → All (λ x. n + 1 ≤ x.location) rs
+  pub far-values : (b : Option Record) (n : ℕ) (rs : List Record) → PassAll f i b rs → All (λ x. n + 1 ≤ x.location) rs
       → Far n (values i rs)
   far-values b n [] h l = tt
   far-values b n (r ∷ rs) h l = omega (arith, place-valued r h.0.kind-known, l.0)

@@ -9,7 +9,7 @@ use mathlib.Core.List.{List, [], ◌∷◌, map}
 use lib.Dec.{T, ltb}
 use borrow.Author.Tests.{eqb-true, ne_eqb, eq-eqb}
 use Rattle.plan.specs.declared.Record.{Record}
-use Rattle.plan.specs.declared.Before.TheVariants.{Nothing}
+use Rattle.std.specs.Prelude.{None}
 use Rattle.plan.specs.Tree.{Forest, none, tree, count, from, children, relabel}
 use Rattle.plan.specs.Table.{Table, spelled, run, TreeOf}
 use Rattle.plan.specs.Change.{delete, rename, replace, insert, act, opens, open_place, meaning}
@@ -141,12 +141,12 @@ module _ {A B : Type 0} (φ : A → B) where
   unfolding located
   located-relabel f r = rw (count-relabel φ f, place-relabel f r.location r.parent)
 
-pub values_fit : (t i : Table) (l : List Record) → PassAll (plan old t) i Nothing l → Fit 0 0 (plain t) (values i l)
+pub values_fit : (t i : Table) (l : List Record) → PassAll (plan old t) i None l → Fit 0 0 (plain t) (values i l)
 values_fit t i l h =
     let p : Forest Painted = plan old t in
     let same : (r : Record) → located p r ≡ located (plain t) r =
     λ r. sym (located-relabel bare p r) ∙ ap (λ (f : Forest ℕ). located f r) (plan-plain old t) in
     fits (plain t) (values_read i l)
     (all_map (λ r. T (located p r)) (λ r. T (located (plain t) r)) (λ r w. subst T (same r) w) l
-    (all_located p i Nothing l h))
-    (all_ordered (plan old t) i Nothing l h)
+    (all_located p i None l h))
+    (all_ordered (plan old t) i None l h)

@@ -1,8 +1,7 @@
 -- What the pass is asked, and what it answers.
 -- Assumes nothing.
-use Rattle.std.specs.Prelude.{ℕ, ◌≤◌, ◌≡◌, List, T, length}
+use Rattle.std.specs.Prelude.{ℕ, ◌≤◌, ◌≡◌, List, T, length, None}
 use Rattle.plan.specs.declared.Record.{Record}
-use Rattle.plan.specs.declared.Before.TheVariants.{Nothing}
 use Rattle.plan.specs.Tree.{count}
 use Rattle.plan.specs.Table.{Table, even, sound, most_rows}
 use Rattle.plan.specs.Paint.{old, plan, written}
@@ -12,7 +11,7 @@ use Rattle.plan.specs.Records.{PassAll}
 -- given: a sound table t, insertions i, a list l that passes tests 4 to 8, and new columns u with room for the result
 pub record Given (t i : Table) (l : List Record) (u : Table) : Type 0 where
   pub table-sound : T (sound t)
-  pub passes : PassAll (plan old t) i Nothing l
+  pub passes : PassAll (plan old t) i None l
   pub few : count (result t i l) ≤ most_rows
   pub even-new : T (even u)
   pub room : count (result t i l) ≤ length u.size

@@ -1,8 +1,7 @@
 -- How the pass goes on from record to record.
 -- Assumes nothing.
-use Rattle.std.specs.Prelude.{ℕ, ◌+◌, ◌-◌, ◌≤◌, ◌<◌, ◌≡◌, cond, List, [], ◌∷◌, eqb, length, set}
+use Rattle.std.specs.Prelude.{ℕ, ◌+◌, ◌-◌, ◌≤◌, ◌<◌, ◌≡◌, cond, List, [], ◌∷◌, eqb, length, set, Option}
 use Rattle.plan.specs.declared.Record.{Record}
-use Rattle.plan.specs.declared.Before.{Before}
 use Rattle.plan.specs.Tree.{relabel}
 use Rattle.plan.specs.Table.{Table, table}
 use Rattle.plan.specs.Change.{Change, skip}
@@ -43,7 +42,7 @@ goal t i l = done (length t.size) (relabel bare (result t i l))
 -- left. The renames of rows ahead are in the table's values already
 pub record Underway (t i : Table) (l : List Record) (w u : Table) (c : Cursor) (rs : List Record) : Type 0 where
   pub given : Given t i l w
-  pub before : Before
+  pub before : Option Record
   pub passes : PassAll (plan old t) i before rs
   pub past-root : All (λ r. 0 < r.location) (behind_first rs)
   pub values : List ℕ

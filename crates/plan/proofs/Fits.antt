@@ -9,8 +9,7 @@ use mathlib.Core.List.{List, [], ◌∷◌}
 use borrow.Author.Tests.{eqb-true}
 use lib.Dec.{T, leb, ltb, eqb, leb→le, le→leb, ltb→lt, lt→ltb, eqb→eq, T_not}
 use Rattle.plan.specs.declared.Record.{Record}
-use Rattle.plan.specs.declared.Before.{Before}
-use Rattle.plan.specs.declared.Before.TheVariants.{Nothing, After}
+use Rattle.std.specs.Prelude.{Option, Some, None}
 use Rattle.plan.specs.Tree.{Forest, none, tree, count, from, children}
 use Rattle.plan.specs.Table.{Table}
 use Rattle.plan.specs.Change.{Act, delete, Change, insert, act, opens, open_place, removes}
@@ -117,9 +116,9 @@ changes_read i k (r ∷ rs) = cons (change_reads i k r) (changes_read i (suc k) 
 
 -- ---- tests 7 and 8: the order
 -- the records are in order behind b
-abbrev pub InOrder : Before → List Record → Type 0
+abbrev pub InOrder : Option Record → List Record → Type 0
 InOrder b [] = Unit {0}
-InOrder b (r ∷ rs) = T (follows b r) × T (alone b r) × InOrder (After r) rs
+InOrder b (r ∷ rs) = T (follows b r) × T (alone b r) × InOrder (Some r) rs
 
 -- what the two tests tell
 record Follows (p r : Record) : Type 0 where
@@ -127,7 +126,7 @@ record Follows (p r : Record) : Type 0 where
   deeper_first : p.location ≡ r.location → is_insert r ≡ true → (is_insert p ≡ true) × (r.parent ≤ p.parent)
   one_insert : p.location ≡ r.location → is_insert p ≡ false → is_insert r ≡ false → ⊥
 
-follows-told : (p r : Record) → T (follows (After p) r) → T (alone (After p) r) → Follows p r
+follows-told : (p r : Record) → T (follows (Some p) r) → T (alone (Some p) r) → Follows p r
 unfolding follows alone
 follows-told p r f a =
     T-or (ltb p.location r.location) _
@@ -209,14 +208,14 @@ module _ {A : Type 0} where
       (λ l. absurd (omega (arith, f.not-below))))
 
   sorted_behind : {r : Record} {c : Change A} {rs : List Record} {cs : List (Change A)}
-      → Reads r c → ReadsAll rs cs → InOrder (After r) rs → Sorted (c ∷ cs)
+      → Reads r c → ReadsAll rs cs → InOrder (Some r) rs → Sorted (c ∷ cs)
   sorted_behind w nil o = (tt, tt)
   sorted_behind {r} {c} w (cons {r = r'} {c = d} {cs = ds} v vs) o =
       let z = sorted_behind {r = r'} {c = d} v vs o.2 in
       let b = reads_before w v (follows-told r r' o.0 o.1) in
       ((b, before_all c d ds b z.0), z)
 
-  sorted : {rs : List Record} {cs : List (Change A)} → ReadsAll rs cs → InOrder Nothing rs → Sorted cs
+  sorted : {rs : List Record} {cs : List (Change A)} → ReadsAll rs cs → InOrder None rs → Sorted cs
   sorted nil o = tt
   sorted (cons w ws) o = sorted_behind w ws o.2
 
@@ -242,5 +241,5 @@ module _ {A : Type 0} where
   all_valid t (cons w ws) h = (located_valid t w h.0, all_valid t ws h.1)
 
   pub fits : (t : Forest A) {rs : List Record} {cs : List (Change A)} → ReadsAll rs cs
-      → All (λ r. T (located t r)) rs → InOrder Nothing rs → Fit 0 0 t cs
+      → All (λ r. T (located t r)) rs → InOrder None rs → Fit 0 0 t cs
   fits t w h o = (all_valid t w h, sorted w o)

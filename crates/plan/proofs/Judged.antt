@@ -7,7 +7,7 @@ use mathlib.Core.List.{List}
 use lib.Dec.{T, leb, leb→le}
 use lib.ListN.{length}
 use Rattle.plan.specs.declared.Record.{Record}
-use Rattle.plan.specs.declared.Before.TheVariants.{Nothing}
+use Rattle.std.specs.Prelude.{None}
 use Rattle.plan.specs.declared.Verdict.TheVariants.{Passed}
 use Rattle.plan.specs.Tree.{count}
 use Rattle.plan.specs.Table.{Table, sound, most_rows}
@@ -25,7 +25,7 @@ pub record Accepted (evens : Bool) (t i : Table) (l : List Record) : Type 0 wher
   pub columns-even : T evens
   pub table-sound : T (sound t)
   pub few-records : length l ≤ most_records
-  pub all_pass : PassAll (plan old t) i Nothing l
+  pub all_pass : PassAll (plan old t) i None l
   pub few-rows : count (result t i l) ≤ most_rows
 
 pub accepted-judged : (evens : Bool) (t i : Table) (l : List Record)
@@ -36,11 +36,11 @@ accepted-judged evens t i l e =
     let a = then-passed (test evens 1 0 0) _ e in
     let b = then-passed (test (sound t) 2 0 0) _ a.1 in
     let c = then-passed (test (leb (length l) most_records) 3 0 0) _ b.1 in
-    let d = then-passed (tested (plan old t) i 0 Nothing l) (test (leb n most_rows) 9 0 n) c.1 in
+    let d = then-passed (tested (plan old t) i 0 None l) (test (leb n most_rows) 9 0 n) c.1 in
     record {
       columns-even = test-passed evens 1 0 0 a.0;
       table-sound = test-passed (sound t) 2 0 0 b.0;
       few-records = leb→le (length l) most_records (test-passed (leb (length l) most_records) 3 0 0 c.0);
-      all_pass = tested-passes (plan old t) i 0 Nothing l d.0;
+      all_pass = tested-passes (plan old t) i 0 None l d.0;
       few-rows = leb→le n most_rows (test-passed (leb n most_rows) 9 0 n d.1);
     }

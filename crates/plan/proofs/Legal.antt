@@ -8,7 +8,7 @@ use mathlib.Core.Bool.{◌&&◌}
 use mathlib.Core.List.{List, [], ◌∷◌}
 use lib.Dec.{T, leb, ltb, le→leb, lt→ltb}
 use Rattle.plan.specs.declared.Record.{Record}
-use Rattle.plan.specs.declared.Before.TheVariants.{Nothing}
+use Rattle.std.specs.Prelude.{None}
 use Rattle.plan.specs.Tree.{Forest, none, tree, count, from, children}
 use Rattle.plan.specs.Table.{Table}
 use Rattle.plan.specs.Change.{Change, insert, act, opens, open_place, legal, meaning, AllLegal}
@@ -114,9 +114,9 @@ module _ {A : Type 0} where
       )
 
 -- the records of a list that passed tests 4 to 8
-pub all_legal : (t i : Table) (l : List Record) → PassAll (plan old t) i Nothing l
+pub all_legal : (t i : Table) (l : List Record) → PassAll (plan old t) i None l
     → AllLegal (changes i 0 l) (plan old t)
 all_legal t i l h =
     let f = plan old t in
     fit_legal f (changes i 0 l)
-    (fits f (changes_read i 0 l) (all_located f i Nothing l h) (all_ordered f i Nothing l h))
+    (fits f (changes_read i 0 l) (all_located f i None l h) (all_ordered f i None l h))

@@ -8,7 +8,7 @@ use mathlib.Core.List.{List, [], ◌∷◌, ◌++◌, map, map-append}
 use lib.Dec.{T, eqb, eqb→eq}
 use lib.ListN.{length, take, drop}
 use Rattle.plan.specs.declared.Record.{Record}
-use Rattle.plan.specs.declared.Before.TheVariants.{Nothing}
+use Rattle.std.specs.Prelude.{None}
 use Rattle.plan.specs.Tree.{Forest, count, labels}
 use Rattle.plan.specs.Table.{Table, even, run}
 use Rattle.plan.specs.Change.{delete, rename, replace, Change, insert, act, location}
@@ -152,7 +152,7 @@ module _ (t : Forest Painted) (rows : origins t ≡ rows_of old 0 (count t)) whe
 pub record Fair (t : Table) (l : List Record) : Type 0 where
   pub even-columns : T (even t)
   pub places : All (λ r. T (located (plan old t) r)) l
-  pub order : InOrder Nothing l
+  pub order : InOrder None l
 
 module _ (t i : Table) (l : List Record) (w : Fair t l) where
   abbrev K : List (Change Painted)

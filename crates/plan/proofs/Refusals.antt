@@ -10,8 +10,7 @@ use lib.Dec.{T, leb, ltb, eqb}
 use lib.ListN.{length}
 use borrow.Author.Tests.{leb-true, leb-false, ltb-false}
 use Rattle.plan.specs.declared.Record.{Record}
-use Rattle.plan.specs.declared.Before.{Before}
-use Rattle.plan.specs.declared.Before.TheVariants.{Nothing, After}
+use Rattle.std.specs.Prelude.{Option, Some, None}
 use Rattle.plan.specs.declared.Verdict.{Verdict}
 use Rattle.plan.specs.declared.Verdict.TheVariants.{Passed, Failed}
 use Rattle.plan.specs.declared.Became.TheVariants.{Refused as NotBecame}
@@ -46,7 +45,7 @@ which Passed w n p c e = others refl e
 which (Failed n' p' c') w n p c e = first e
 
 -- ---- one record
-module _ {A : Type 0} (t : Forest A) (i : Table) (b : Before) (r : Record) where
+module _ {A : Type 0} (t : Forest A) (i : Table) (b : Option Record) (r : Record) where
   fails_by : (k l u f a : Bool) → known r ≡ k → located t r ≡ l → runs i r ≡ u → follows b r ≡ f → alone b r ≡ a
       → (n : ℕ) → cond (not k) 4 (cond (not l) 5 (cond (not u) 6 (cond (not f) 7 (cond (not a) 8 0)))) ≡ n → 0 < n
       → Fails t i b r n
@@ -67,7 +66,7 @@ module _ {A : Type 0} (t : Forest A) (i : Table) (b : Before) (r : Record) where
       fails_by (known r) (located t r) (runs i r) (follows b r) (alone b r) refl refl refl refl refl n e h
 
 -- ---- the records of a list, from the k-th on
-record Found (t i : Table) (k : ℕ) (b : Before) (l : List Record) (n place count : ℕ) : Type 0 where
+record Found (t i : Table) (k : ℕ) (b : Option Record) (l : List Record) (n place count : ℕ) : Type 0 where
   earlier : List Record
   bad : Record
   later : List Record
@@ -78,7 +77,7 @@ record Found (t i : Table) (k : ℕ) (b : Before) (l : List Record) (n place cou
   no_count : count ≡ 0
 
 module _ (t i : Table) where
-  found_here : (k : ℕ) (b : Before) (r : Record) (rs : List Record) (n p c : ℕ)
+  found_here : (k : ℕ) (b : Option Record) (r : Record) (rs : List Record) (n p c : ℕ)
       → test (eqb (failing (plan old t) i b r) 0) (failing (plan old t) i b r) k 0 ≡ Failed n p c
       → Found t i k b (r ∷ rs) n p c
   unfolding tested
@@ -101,9 +100,9 @@ module _ (t i : Table) where
       positive zero n e f = let z : ◌≡◌ {A = ℕ} 0 1 = cc in absurd (omega arith)
       positive (suc m) n e f = omega arith
 
-  found_behind : (k : ℕ) (b : Before) (r : Record) (rs : List Record) (n p c : ℕ)
+  found_behind : (k : ℕ) (b : Option Record) (r : Record) (rs : List Record) (n p c : ℕ)
       → test (eqb (failing (plan old t) i b r) 0) (failing (plan old t) i b r) k 0 ≡ Passed
-      → Found t i (suc k) (After r) rs n p c → Found t i k b (r ∷ rs) n p c
+      → Found t i (suc k) (Some r) rs n p c → Found t i k b (r ∷ rs) n p c
   unfolding tested
   found_behind k b r rs n p c e h =
       record {
@@ -117,18 +116,18 @@ module _ (t i : Table) where
         no_count = h.no_count;
       }
 
-  found : (k : ℕ) (b : Before) (l : List Record) (n p c : ℕ) → tested (plan old t) i k b l ≡ Failed n p c
+  found : (k : ℕ) (b : Option Record) (l : List Record) (n p c : ℕ) → tested (plan old t) i k b l ≡ Failed n p c
       → Found t i k b l n p c
   unfolding tested
   found k b [] n p c e = let z : ◌≡◌ {A = ℕ} 0 1 = cc in absurd (omega arith)
   found k b (r ∷ rs) n p c e =
       let m : ℕ = failing (plan old t) i b r in
-      by (which (test (eqb m 0) m k 0) (tested (plan old t) i (suc k) (After r) rs) n p c e)
-      (λ h. found (suc k) (After r) rs n p c h)
+      by (which (test (eqb m 0) m k 0) (tested (plan old t) i (suc k) (Some r) rs) n p c e)
+      (λ h. found (suc k) (Some r) rs n p c h)
     where
       by : Which (test (eqb (failing (plan old t) i b r) 0) (failing (plan old t) i b r) k 0)
-          (tested (plan old t) i (suc k) (After r) rs) (Failed n p c)
-          → (tested (plan old t) i (suc k) (After r) rs ≡ Failed n p c → Found t i (suc k) (After r) rs n p c)
+          (tested (plan old t) i (suc k) (Some r) rs) (Failed n p c)
+          → (tested (plan old t) i (suc k) (Some r) rs ≡ Failed n p c → Found t i (suc k) (Some r) rs n p c)
           → Found t i k b (r ∷ rs) n p c
       by (first h) f = found_here k b r rs n p c h
       by (others h w) f = found_behind k b r rs n p c h (f w)
@@ -145,11 +144,11 @@ module _ (evens : Bool) (t i : Table) (l : List Record) where
   few = leb (length l) most_records
 
   abbrev records : Verdict
-  records = tested (plan old t) i 0 Nothing l
+  records = tested (plan old t) i 0 None l
 
   by_records : (n p c : ℕ) → T evens → T (sound t) → few ≡ true → records ≡ Failed n p c → R n p c
   by_records n p c he ht hf h =
-      let w = found t i 0 Nothing l n p c h in
+      let w = found t i 0 None l n p c h in
       subst (R n p) (sym w.no_count)
       (bad-record n p he ht (leb-true (length l) most_records hf)
       (record {
@@ -252,7 +251,7 @@ was-refused Passed (new k i) n p c h = let z : ◌≡◌ {A = ℕ} 0 1 = cc in a
 was-refused (Failed n' p' c') o n p c h = cc
 
 -- ---- what a number tells
-fails-number : {A : Type 0} {t : Forest A} {i : Table} {b : Before} {r : Record} {n : ℕ} → Fails t i b r n
+fails-number : {A : Type 0} {t : Forest A} {i : Table} {b : Option Record} {r : Record} {n : ℕ} → Fails t i b r n
     → (0 < n) × (n < 9)
 fails-number (four a) = omega arith
 fails-number (five a b) = omega arith

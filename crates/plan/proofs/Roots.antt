@@ -8,7 +8,7 @@ use mathlib.Core.Bool.{◌&&◌, ◌||◌}
 use mathlib.Core.List.{List, [], ◌∷◌}
 use lib.Dec.{T, ltb, ltb→lt}
 use Rattle.plan.specs.declared.Record.{Record}
-use Rattle.plan.specs.declared.Before.TheVariants.{Nothing}
+use Rattle.std.specs.Prelude.{None}
 use Rattle.plan.specs.Tree.{Forest, none, tree, count, at, relabel}
 use Rattle.plan.specs.Table.{Table, sound, most_rows}
 use Rattle.plan.specs.Change.{delete, rename, replace, Change, insert, act, removes, acted, joined, single, meaning}
@@ -90,12 +90,12 @@ plan_one t h =
     bare_one (plan old t) w.root w.kids
     (one_table f g (ap (λ (x : Table). x.size) e) (ap (λ (x : Table). x.value) e))
 
-module _ (t i : Table) (l : List Record) (h : T (sound t)) (p : PassAll (plan old t) i Nothing l) where
+module _ (t i : Table) (l : List Record) (h : T (sound t)) (p : PassAll (plan old t) i None l) where
   pub result_one : One (result t i l)
   unfolding result
   result_one =
       meaning_one (plan old t) (changes i 0 l) (plan_one t h)
-      (all_safe (plan old t) (changes_read i 0 l) (all_located (plan old t) i Nothing l p))
+      (all_safe (plan old t) (changes_read i 0 l) (all_located (plan old t) i None l p))
 
   -- the new table is sound
   pub result-sound : count (result t i l) ≤ most_rows → T (sound (written (result t i l)))

@@ -7,8 +7,7 @@ use mathlib.Core.Path.{◌≡◌, refl, sym, ◌∙◌}
 use mathlib.Core.Bool.{Bool, true, false, ◌||◌}
 use lib.Dec.{T, leb, leb→le}
 use Rattle.plan.specs.declared.Record.{Record}
-use Rattle.plan.specs.declared.Before.{Before}
-use Rattle.plan.specs.declared.Before.TheVariants.{Nothing, After}
+use Rattle.std.specs.Prelude.{Option, Some, None}
 use Rattle.plan.specs.Tree.{Forest}
 use Rattle.plan.specs.Table.{Table}
 use Rattle.plan.specs.Records.{is_insert, is_replace, change, known, located, runs, follows, alone, failing, Alike, Unread}
@@ -41,21 +40,21 @@ module _ (r s : Record) (h : Alike r s) where
     unfolding runs
     same-run i = rw h.kind (by_flag (is_insert s || is_replace s) (λ e. rw (from_of e)) (λ e. rw e))
 
-    same_order : (b : Before) → follows b r ≡ follows b s
+    same_order : (b : Option Record) → follows b r ≡ follows b s
     unfolding follows
-    same_order Nothing = refl
-    same_order (After p) = rw (h.kind, place) (by_flag (is_insert s) (λ e. rw (parent_of e)) (λ e. rw e))
+    same_order None = refl
+    same_order (Some p) = rw (h.kind, place) (by_flag (is_insert s) (λ e. rw (parent_of e)) (λ e. rw e))
 
-    same-alone : (b : Before) → alone b r ≡ alone b s
+    same-alone : (b : Option Record) → alone b r ≡ alone b s
     unfolding alone
-    same-alone Nothing = refl
-    same-alone (After p) = rw (h.kind, place)
+    same-alone None = refl
+    same-alone (Some p) = rw (h.kind, place)
 
-    order_behind : (x : Record) → follows (After r) x ≡ follows (After s) x
+    order_behind : (x : Record) → follows (Some r) x ≡ follows (Some s) x
     unfolding follows
     order_behind x = rw (h.kind, place) (by_flag (is_insert s) (λ e. rw (parent_of e)) (λ e. rw e))
 
-    alone-behind : (x : Record) → alone (After r) x ≡ alone (After s) x
+    alone-behind : (x : Record) → alone (Some r) x ≡ alone (Some s) x
     unfolding alone
     alone-behind x = rw (h.kind, place)
 
@@ -88,7 +87,7 @@ module _ (r s : Record) (h : Alike r s) where
         by_place r.kind 4 (λ o. same-rename (omega arith) t) (λ e. same-replace e t) (λ o. absurd (omega arith)))
 
   -- ---- the tests
-  same-failing : {A : Type 0} (t : Forest A) (i : Table) (b : Before) → failing t i b r ≡ failing t i b s
+  same-failing : {A : Type 0} (t : Forest A) (i : Table) (b : Option Record) → failing t i b r ≡ failing t i b s
   unfolding failing
   same-failing t i b =
       by_flag (known s)
@@ -98,7 +97,7 @@ module _ (r s : Record) (h : Alike r s) where
       (λ e. rw (same_kind, e))
 
   behind-failing : {A : Type 0} (t : Forest A) (i : Table) → T (known r) → (x : Record)
-      → failing t i (After r) x ≡ failing t i (After s) x
+      → failing t i (Some r) x ≡ failing t i (Some s) x
   unfolding failing
   behind-failing t i k x = rw (order_behind k x, alone-behind k x)
 

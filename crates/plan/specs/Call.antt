@@ -1,10 +1,8 @@
 -- The calls: the published tests in their order, and what an accepted call writes.
 -- Assumes nothing.
-use Rattle.std.specs.Prelude.{ℕ, suc, ◌≡◌, Bool, true, false, ◌&&◌, List, [], ◌∷◌, ◌++◌, leb, eqb, length, drop}
+use Rattle.std.specs.Prelude.{ℕ, suc, ◌≡◌, Bool, true, false, ◌&&◌, List, [], ◌∷◌, ◌++◌, leb, eqb, length, drop, Option, Some, None}
 use Rattle.plan.specs.declared.Record.{Record}
 use Rattle.plan.specs.declared.Answer.{Answer}
-use Rattle.plan.specs.declared.Before.{Before}
-use Rattle.plan.specs.declared.Before.TheVariants.{Nothing, After}
 use Rattle.plan.specs.declared.Verdict.{Verdict}
 use Rattle.plan.specs.declared.Verdict.TheVariants.{Passed, Failed}
 use Rattle.plan.specs.declared.Judgement.{Judgement}
@@ -27,10 +25,10 @@ test true number place count = Passed
 test false number place count = Failed number place count
 
 -- tests 4 to 8, record by record: the first record that fails one decides
-unfoldable pub tested : {A : Type 0} → Forest A → Table → ℕ → Before → List Record → Verdict
+unfoldable pub tested : {A : Type 0} → Forest A → Table → ℕ → Option Record → List Record → Verdict
 tested t i k b [] = Passed
 tested t i k b (r ∷ rs) =
-    let n = failing t i b r in then (test (eqb n 0) n k 0) (tested t i (suc k) (After r) rs)
+    let n = failing t i b r in then (test (eqb n 0) n k 0) (tested t i (suc k) (Some r) rs)
 
 -- the painted tree that a list turns the table's tree into
 unfoldable pub result : Table → Table → List Record → Forest Painted
@@ -50,7 +48,7 @@ judged evens t i l =
     then (test evens 1 0 0)
     (then (test (sound t) 2 0 0)
     (then (test (leb (length l) most_records) 3 0 0)
-    (then (tested (plan old t) i 0 Nothing l)
+    (then (tested (plan old t) i 0 None l)
     (test (leb n most_rows) 9 0 n))))
 
 -- the bulk call: tests 1 to 10, with the new columns u

@@ -2,6 +2,7 @@
 -- Assumes nothing.
 use Rattle.std.specs.Prelude.{ℕ, zero, suc, Bool, ◌&&◌, List, [], ◌∷◌, eqb, length, get_or}
 use Rattle.plan.specs.declared.Record.{Record}
+use Rattle.plan.specs.declared.lent.Changes.{Changes}
 
 pub record Lent : Type 0 where
   pub kind : List ℕ
@@ -12,6 +13,9 @@ pub record Lent : Type 0 where
 
 abbrev pub lent : (kind location parent from value : List ℕ) → Lent
 lent k l p f v = record { kind = k; location = l; parent = p; from = f; value = v }
+
+abbrev pub read_list : Changes → Lent
+read_list c = lent c.kind.now c.location.now c.parent.now c.from.now c.value.now
 
 -- are the five columns equally long?
 unfoldable pub level : Lent → Bool

@@ -27,10 +27,12 @@
 --             became, was: their answers. new_numbers, record_of, row_of: both as whole columns; mapped: the tests of
 --             these calls; column_held: what a lent column then holds; OldDone, NewDone: what the calls do. come, left,
 --             taken, Formula: the paper's formula for the new number of an old row
+--   Told      failed: the number, place and count of a refusal. verdict_told and the like: what the code answers, read
+--             as the paper's answers. read, read_list: lent columns as a table and as a list (in Table and Lent)
 --   Handed    row_of, part_of, walk_of, step_of, became_of, was_of: the answers as structs of plain numbers
 --   Cases     cases A to L of the worked plan
 --
--- Names of the code's own types (Record, Before, Verdict, Answer) stand under `declared`.
+-- Names of the code's own types (Record, Verdict, Answer) stand under `declared`.
 pub mod Tree
 pub mod Table
 pub mod Change
@@ -44,5 +46,6 @@ pub mod Reasons
 pub mod Lent
 pub mod Axes
 pub mod Mapping
+pub mod Told
 pub mod Handed
 pub mod Cases

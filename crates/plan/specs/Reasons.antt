@@ -1,9 +1,7 @@
 -- Why a call on a list is refused, in the paper's words: one reason for each number, and the tests before it passed.
 -- Assumes nothing.
-use Rattle.std.specs.Prelude.{ℕ, ◌≤◌, ◌<◌, ◌≡◌, Bool, false, ◌&&◌, List, [], ◌∷◌, ◌++◌, T, length}
+use Rattle.std.specs.Prelude.{ℕ, ◌≤◌, ◌<◌, ◌≡◌, Bool, false, ◌&&◌, List, [], ◌∷◌, ◌++◌, T, length, Option, Some, None}
 use Rattle.plan.specs.declared.Record.{Record}
-use Rattle.plan.specs.declared.Before.{Before}
-use Rattle.plan.specs.declared.Before.TheVariants.{Nothing, After}
 use Rattle.plan.specs.declared.Verdict.TheVariants.{Passed}
 use Rattle.plan.specs.Tree.{Forest, count}
 use Rattle.plan.specs.Table.{Table, even, sound, most_rows}
@@ -12,12 +10,12 @@ use Rattle.plan.specs.Records.{known, located, runs, follows, alone}
 use Rattle.plan.specs.Call.{tested, result, most_records, judged}
 
 -- what stands before a record behind these records
-abbrev pub last : Before → List Record → Before
+abbrev pub last : Option Record → List Record → Option Record
 last b [] = b
-last b (r ∷ rs) = last (After r) rs
+last b (r ∷ rs) = last (Some r) rs
 
 -- the record r behind b fails the test n, and none with a lower number
-pub data Fails {A : Type 0} (t : Forest A) (i : Table) (b : Before) (r : Record) : (n : ℕ) → Type 0 where
+pub data Fails {A : Type 0} (t : Forest A) (i : Table) (b : Option Record) (r : Record) : (n : ℕ) → Type 0 where
   four : known r ≡ false → Fails t i b r 4
   five : T (known r) → located t r ≡ false → Fails t i b r 5
   six : T (known r) → T (located t r) → runs i r ≡ false → Fails t i b r 6
@@ -31,8 +29,8 @@ pub record FailsAt (t i : Table) (l : List Record) (n place : ℕ) : Type 0 wher
   pub later : List Record
   pub whole : l ≡ earlier ++ (bad ∷ later)
   pub at_place : length earlier ≡ place
-  pub earlier_pass : tested (plan old t) i 0 Nothing earlier ≡ Passed
-  pub fails : Fails (plan old t) i (last Nothing earlier) bad n
+  pub earlier_pass : tested (plan old t) i 0 None earlier ≡ Passed
+  pub fails : Fails (plan old t) i (last None earlier) bad n
 
 -- a list is refused by tests 1 to 9 with this number, place and count; evens says whether all columns of the call are
 -- even
@@ -42,7 +40,7 @@ pub data Judged (evens : Bool) (t i : Table) (l : List Record) : (number place c
   too_many : T evens → T (sound t) → most_records < length l → Judged evens t i l 3 0 0
   bad-record : (n place : ℕ) → T evens → T (sound t) → length l ≤ most_records → FailsAt t i l n place
       → Judged evens t i l n place 0
-  too_large : T evens → T (sound t) → length l ≤ most_records → tested (plan old t) i 0 Nothing l ≡ Passed
+  too_large : T evens → T (sound t) → length l ≤ most_records → tested (plan old t) i 0 None l ≡ Passed
       → most_rows < count (result t i l) → Judged evens t i l 9 0 (count (result t i l))
 
 -- or these passed, and the call's last test fails

@@ -1,9 +1,7 @@
 -- Records: what each means, and the published tests 4 to 8 of each.
 -- Assumes nothing.
-use Rattle.std.specs.Prelude.{ℕ, suc, ◌+◌, ◌≡◌, Bool, true, cond, ◌&&◌, ◌||◌, not, List, [], ◌∷◌, T, leb, ltb, eqb, length, get_or}
+use Rattle.std.specs.Prelude.{ℕ, suc, ◌+◌, ◌≡◌, Bool, true, cond, ◌&&◌, ◌||◌, not, List, [], ◌∷◌, T, leb, ltb, eqb, length, get_or, Option, Some, None}
 use Rattle.plan.specs.declared.Record.{Record}
-use Rattle.plan.specs.declared.Before.{Before}
-use Rattle.plan.specs.declared.Before.TheVariants.{Nothing, After}
 use Rattle.plan.specs.Tree.{Forest, count}
 use Rattle.plan.specs.Table.{Table, sound, run}
 use Rattle.plan.specs.Change.{delete, rename, replace, Change, insert, act, open_place}
@@ -54,19 +52,19 @@ runs i r =
     not (is_insert r || is_replace r) || (ltb f m && (leb (f + get_or i.size f 0) m && sound (run i f)))
 
 -- 7: the location is past the one before, or the same; then an insert follows an insert, and its parent is no larger
-unfoldable pub follows : Before → Record → Bool
-follows Nothing r = true
-follows (After p) r =
+unfoldable pub follows : Option Record → Record → Bool
+follows None r = true
+follows (Some p) r =
     ltb p.location r.location
     || (eqb p.location r.location && (not (is_insert r) || (is_insert p && leb r.parent p.parent)))
 
 -- 8: of two records at one location, one is an insert
-unfoldable pub alone : Before → Record → Bool
-alone Nothing r = true
-alone (After p) r = not (eqb p.location r.location) || (is_insert p || is_insert r)
+unfoldable pub alone : Option Record → Record → Bool
+alone None r = true
+alone (Some p) r = not (eqb p.location r.location) || (is_insert p || is_insert r)
 
 -- the first of these tests that a record fails, or 0
-unfoldable pub failing : {A : Type 0} → Forest A → Table → Before → Record → ℕ
+unfoldable pub failing : {A : Type 0} → Forest A → Table → Option Record → Record → ℕ
 failing t i b r =
     cond (not (known r)) 4
     (cond (not (located t r)) 5
@@ -81,7 +79,7 @@ All P (c ∷ cs) = P c × All P cs
 
 module _ {A : Type 0} (t : Forest A) (i : Table) where
   -- a record behind b passes
-  pub record Passes (b : Before) (r : Record) : Type 0 where
+  pub record Passes (b : Option Record) (r : Record) : Type 0 where
     pub kind-known : T (known r)
     pub in_place : T (located t r)
     pub run_sound : T (runs i r)
@@ -89,9 +87,9 @@ module _ {A : Type 0} (t : Forest A) (i : Table) where
     pub by_itself : T (alone b r)
 
   -- all records of a list do
-  abbrev pub PassAll : Before → List Record → Type 0
+  abbrev pub PassAll : Option Record → List Record → Type 0
   PassAll b [] = Unit {0}
-  PassAll b (r ∷ rs) = Passes b r × PassAll (After r) rs
+  PassAll b (r ∷ rs) = Passes b r × PassAll (Some r) rs
 
 -- ---- what a kind doesn't use is not read
 -- two records of one kind that agree in what it uses: all use the location, an insert the parent, an insert and a
@@ -105,6 +103,6 @@ pub record Alike (r s : Record) : Type 0 where
 
 -- the record itself and the record behind it are tested alike, and it means the same
 pub record Unread {A : Type 0} (t : Forest A) (i : Table) (r s : Record) : Type 0 where
-  pub its_tests : (b : Before) → failing t i b r ≡ failing t i b s
-  pub next-tests : T (known r) → (x : Record) → failing t i (After r) x ≡ failing t i (After s) x
+  pub its_tests : (b : Option Record) → failing t i b r ≡ failing t i b s
+  pub next-tests : T (known r) → (x : Record) → failing t i (Some r) x ≡ failing t i (Some s) x
   pub its_meaning : T (known r) → (k : ℕ) → change i k r ≡ change i k s

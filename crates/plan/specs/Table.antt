@@ -2,6 +2,7 @@
 -- sound.
 -- Assumes nothing.
 use Rattle.std.specs.Prelude.{ℕ, zero, suc, ◌-◌, ◌≤◌, ◌≡◌, Bool, true, false, ◌&&◌, List, [], ◌∷◌, leb, eqb, length, take, drop, get_or}
+use Rattle.plan.specs.declared.lent.Table.{Table as Columns}
 use Rattle.plan.specs.Tree.{Forest, none, tree, count, labels, sizes, dists, is_tree}
 
 pub record Table : Type 0 where
@@ -11,6 +12,10 @@ pub record Table : Type 0 where
 
 abbrev pub table : (dist size value : List ℕ) → Table
 table d s v = record { dist = d; size = s; value = v }
+
+-- the table that stands in three lent columns
+abbrev pub read : Columns → Table
+read c = table c.dist.now c.size.now c.value.now
 
 -- are the three columns equally long?
 unfoldable pub even : Table → Bool

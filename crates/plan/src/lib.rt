@@ -6,6 +6,9 @@ ghost use Rattle.std.specs.Prelude.{◌≡◌, ◌<◌};
 ghost use Rattle.plan.specs.Answer.{accepted, refused};
 ghost use Rattle.plan.specs.Way.{start};
 
+pub mod lent;
+pub mod refusal;
+
 // A row number of the table as it was. Nothing but a mapping turns it into a row number of the new table.
 #[derive(Clone, Copy)]
 pub struct OldPre(pub u32);
@@ -43,13 +46,6 @@ impl Record {
     pub const MOST: usize = 1024;
     // stands in a column of record numbers where the new row was an old one: no record has it
     pub const NONE: u32 = 4294967295;
-}
-
-// What stands before a record in its list.
-#[derive(Clone, Copy)]
-pub enum Before {
-    Nothing,
-    After(Record),
 }
 
 // What the tests and the count of a record ask of the table: how many rows it has, at which old row the rows go on
@@ -108,6 +104,28 @@ pub enum Was {
     Old(OldPre),
     Run(u32, u32),
     Refused(u32, u32, u64),
+}
+
+// Which row a new one was: an old row, or a record and the row in its run.
+#[derive(Clone, Copy)]
+pub enum Source {
+    Old(OldPre),
+    Run(u32, u32),
+}
+
+// Where a walk over children starts: the row itself, the first candidate and the end.
+#[derive(Clone, Copy)]
+pub struct Span {
+    pub top: usize,
+    pub next: usize,
+    pub end: usize,
+}
+
+// A step's child, and the next candidate.
+#[derive(Clone, Copy)]
+pub struct Child {
+    pub row: usize,
+    pub next: usize,
 }
 
 // What tests say: all passed, or the number of the first that failed, with the place at fault and a count.

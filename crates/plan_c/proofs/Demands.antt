@@ -12,7 +12,7 @@ use lib.Dec.{T}
 use lib.ListN.{length, get_or}
 use Rattle.plan.specs.declared.Record.{Record}
 use Rattle.plan.specs.declared.Answer.{Answer}
-use Rattle.plan.specs.declared.Before.TheVariants.{Nothing}
+use Rattle.std.specs.Prelude.{None}
 use Rattle.plan.specs.declared.Verdict.TheVariants.{Passed, Failed}
 use Rattle.plan.specs.declared.Became.TheVariants.{Refused as NotBecame}
 use Rattle.plan.specs.declared.Was.TheVariants.{Refused as NotWas}
@@ -153,7 +153,7 @@ module _ (evens : Bool) (t i : Table) (l : List Record) (u : Table) (a : Answer)
   pub vain_leaves_no_trace : meaning (kept (plan old t) [] (changes i 0 l)) (plan old t) ≡ result t i l
   vain_leaves_no_trace =
       let f = plan old t in
-      kept_result t i l (all_located f i Nothing l tests.all_pass) (all_ordered f i Nothing l tests.all_pass)
+      kept_result t i l (all_located f i None l tests.all_pass) (all_ordered f i None l tests.all_pass)
 
 -- the mappings: tests 1 to 9 passed
 module _ (t i : Table) (l : List Record) (passed : judged (even t && even i) t i l ≡ Passed) where

@@ -1,10 +1,9 @@
--- What a record asks of the table: on a sound table it is read off the distances and sizes; and test 5, by what it
--- finds.
+-- What a record asks of the table: on a sound table it is read off the distances and sizes.
 -- Assumes nothing.
 use Prim.Native.Nat.{ℕ, ◌+◌, ◌≤◌, ◌<◌}
 use native.Mathlib.Omega.{arith}
 use mathlib.Core.Path.{◌≡◌, sym, ap, ◌∙◌, subst}
-use mathlib.Core.Bool.{Bool, cond, ◌&&◌, ◌||◌}
+use mathlib.Core.Bool.{Bool, ◌&&◌}
 use mathlib.Core.Logic.{◌↔◌}
 use mathlib.Core.List.{List}
 use lib.Dec.{T, ltb}
@@ -17,7 +16,7 @@ use Rattle.plan.specs.Table.{Table, table, sound}
 use Rattle.plan.specs.Change.{open_place}
 use Rattle.plan.specs.Open.{QuickPlace}
 use Rattle.plan.specs.Paint.{Painted, old, plan}
-use Rattle.plan.specs.Records.{is_insert, is_rename, located}
+use Rattle.plan.specs.Records.{is_insert}
 use Rattle.plan.specs.Way.{old_pre, goes_on_at, place_of}
 use Rattle.plan.proofs.Rows.{below_fits, size-at}
 use Rattle.plan.proofs.Planned.{plan-sizes, plan-dists, plan-length}
@@ -83,13 +82,3 @@ row_ends dist size r h l =
       low = λ w.
           omega (arith, ends_low dist size h.value h.is-sound r.location l, rows_few dist size h);
     }
-
--- ---- test 5, by what the record finds
--- test 5 without the tree
-abbrev pub placed : Place → Record → Bool
-placed p r =
-    cond (is_insert r) p.opens (ltb r.location p.rows && (is_rename r || ltb 0 r.location))
-
-pub located_is : (f : Forest Painted) (p : Place) (r : Record) → p ≡ place_of f r → located f r ≡ placed p r
-unfolding located place_of
-located_is f p r e = grind (arith, nat_tests)

@@ -1,4 +1,5 @@
-// What a record asks of the table, read from its columns in constant time; and test 5, which asks just that.
+// What a record asks of the table, read from its columns in constant time; and test 5, which asks just that. It is the
+// same whatever the values are, so these take distances and sizes, and no whole table.
 ghost use Rattle.std.specs.Prelude.{◌≡◌, ◌<◌, length};
 ghost use Rattle.plan.specs.Way.{old_pre, goes_on_at};
 ghost use Rattle.judge_record.specs.Trial.{quick_place, open_for, SoundRows, Faces, RightPlace};

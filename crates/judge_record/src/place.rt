@@ -2,7 +2,8 @@
 // same whatever the values are, so these take distances and sizes, and no whole table.
 ghost use Rattle.std.specs.Prelude.{◌≡◌, ◌<◌, length};
 ghost use Rattle.plan.specs.Way.{old_pre, goes_on_at};
-ghost use Rattle.judge_record.specs.Trial.{quick_place, open_for, SoundRows, Faces, RightPlace};
+ghost use Rattle.table.specs.Shape.{Shaped};
+ghost use Rattle.judge_record.specs.Trial.{quick_place, open_for, Faces, RightPlace};
 ghost use Rattle.judge_record.specs.Way.{EndsLow};
 
 use crate::way::row_behind;
@@ -39,9 +40,9 @@ fn end_of(size: &[u32], r: Record) -> OldPre
 }
 
 // What the record asks of the table.
-#[tactic(auto, using(crate::proofs::Places::rows_even, crate::proofs::Places::rows_few))]
+#[tactic(auto, using(table::proofs::Parents::shape_lengths))]
 pub fn place_of(dist: &[u32], size: &[u32], r: Record) -> Place
-    requires { SoundRows dist.now size.now }
+    requires { Shaped dist.now size.now }
     ensures { Faces dist.now size.now r result }
 {
     Place {

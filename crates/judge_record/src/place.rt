@@ -40,7 +40,7 @@ fn end_of(size: &[u32], r: Record) -> OldPre
 }
 
 // What the record asks of the table.
-#[tactic(auto, using(table::proofs::Parents::shape_lengths))]
+#[tactic(auto, using(table::proofs::Parents::shape_lengths, crate::proofs::Places::faces_it))]
 pub fn place_of(dist: &[u32], size: &[u32], r: Record) -> Place
     requires { Shaped dist.now size.now }
     ensures { Faces dist.now size.now r result }

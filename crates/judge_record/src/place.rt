@@ -53,7 +53,7 @@ pub fn place_of(dist: &[u32], size: &[u32], r: Record) -> Place
 }
 
 // Test 5: an insert's location is an open place of its parent; another's is a row, and row 0 can only be renamed.
-#[tactic(auto, using(std::proofs::lemmas::Bool::Decides::nat_tests), unfolding(plan::specs::Records::located, plan::specs::Way::place_of))]
+#[tactic(auto, unfolding(plan::specs::Records::located, plan::specs::Way::place_of))]
 pub fn test_location(place: Place, r: Record) -> Result<(), Fault>
     ensures { RightPlace place r result }
 {

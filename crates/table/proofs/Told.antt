@@ -68,6 +68,9 @@ asked-told t r x h =
     let w = row_is (asked t r) r x h in
     row_in t r x w.0 w.1
 
+pub asked_within : (t : Table) (r x : ℕ) → row x ≡ asked_row t r → (x < length t.size) × (length t.dist ≡ length t.size)
+asked_within t r x h = let w = asked-told t r x h in (w.within, w.dist-length)
+
 -- and its subtree lies in the table
 pub record TopIn (t : Table) (r x : ℕ) : Type 0 where
   pub tests : whole t r ≡ Passed
@@ -82,6 +85,9 @@ top-told t r x h =
     let v = whole-passed t r w.0 in
     record { tests = w.0; row_in = row_in t r x v.0 w.1; some = v.1; fits = v.2 }
 
+pub top_within : (t : Table) (r x : ℕ) → row x ≡ subtree_top t r → x < length t.size
+top_within t r x h = (top-told t r x h).row_in.within
+
 -- the row q that was found is the parent of r
 pub record ParentIn (t : Table) (r q : ℕ) : Type 0 where
   pub is : parent t r ≡ row q
@@ -95,22 +101,22 @@ parent-told t r q o h e =
     record { is = i; row_in = row_in t r r w.0 refl; before = w.1 }
 
 -- ---- it is refused: so is each call that makes the same tests first
-differ : {P : Type 0} → ◌≡◌ {A = ℕ} 0 1 → P
+pub differ : {P : Type 0} → ◌≡◌ {A = ℕ} 0 1 → P
 differ e = absurd (omega arith)
 
-no-row : (e : RowRefusal) (r : ℕ) → refused_told e ≡ row r → ⊥
+pub no-row : {P : Type 0} (e : RowRefusal) (r : ℕ) → refused_told e ≡ row r → P
 no-row UnevenTable r h = differ (cc)
 no-row (NoRow q) r h = differ (cc)
 no-row (Broken q) r h = differ (cc)
 
 failed_at : (e : RowRefusal) (v : Verdict) (r : ℕ) (x : Reply) → refused_told e ≡ reply v (row r)
     → refused_told e ≡ reply v x
-failed_at e Passed r x h = absurd (no-row e r h)
+failed_at e Passed r x h = no-row e r h
 failed_at e (Failed number place count) r x h = h
 
 failed_by : (e : RowRefusal) (v w : Verdict) (r : ℕ) (x : Reply) → refused_told e ≡ reply v (row r)
     → refused_told e ≡ reply (then v w) x
-failed_by e Passed w r x h = absurd (no-row e r h)
+failed_by e Passed w r x h = no-row e r h
 failed_by e (Failed number place count) w r x h = h
 
 module _ (t : Table) (r : ℕ) (e : RowRefusal) where
@@ -135,7 +141,7 @@ module _ (t : Table) (r : ℕ) (e : RowRefusal) where
     part_handed = go (whole t r) h
       where
         go : (v : Verdict) → refused_told e ≡ reply v (row r) → [] ≡ part_where v (take (cell t.size r) (drop r t.value))
-        go Passed k = absurd (no-row e r k)
+        go Passed k = no-row e r k
         go (Failed number place count) k = refl
 
     pub start_handed : start_told (Err e) ≡ walk_start t r
@@ -144,7 +150,7 @@ module _ (t : Table) (r : ℕ) (e : RowRefusal) where
       where
         go : (v : Verdict) → refused_told e ≡ reply v (row r)
             → start_told (Err e) ≡ start_where v r (r + 1) (r + cell t.size r)
-        go Passed k = absurd (no-row e r k)
+        go Passed k = no-row e r k
         go (Failed number place count) k = λ i. record { answer = k i; next = 0; end = 0 }
 
   -- of the parent

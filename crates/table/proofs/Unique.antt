@@ -9,6 +9,7 @@ use Rattle.plan.specs.declared.refusal.RowRefusal.{RowRefusal}
 use Rattle.plan.specs.declared.refusal.RowRefusal.TheVariants.{Uneven, NoSuchRow, Broken}
 use Rattle.plan.specs.declared.refusal.Misfit.{Misfit}
 use Rattle.plan.specs.Told.{refused_told, reply_told, row_told, start_told, step_told}
+use Rattle.table.proofs.Told.{differ, no-row}
 use Rattle.table.specs.Shape.{Shaped, Begun, Right}
 
 -- `soundness`, `is_sound` and `subtree`: an answer, a yes or no, and a list of values, each given by an equation
@@ -20,9 +21,6 @@ module _ {A B : Type 0} (read : A → B) (apart : (a b : A) → read a ≡ read 
   read_once : (x : B) (a b : A) → read a ≡ x → read b ≡ x → a ≡ b
   read_once x a b p q = apart a b (p ∙ sym q)
 
-differ : {P : Type 0} → ◌≡◌ {A = ℕ} 0 1 → P
-differ e = absurd (omega arith)
-
 refused_apart : (e f : RowRefusal) → refused_told e ≡ refused_told f → e ≡ f
 refused_apart Uneven Uneven h = refl
 refused_apart Uneven (NoSuchRow s) h = differ (cc)
@@ -33,11 +31,6 @@ refused_apart (NoSuchRow r) (Broken s) h = differ (cc)
 refused_apart (Broken r) Uneven h = differ (cc)
 refused_apart (Broken r) (NoSuchRow s) h = differ (cc)
 refused_apart (Broken r) (Broken s) h = let e : r ≡ s = cc in ap Broken e
-
-no-row : {P : Type 0} (e : RowRefusal) (r : ℕ) → refused_told e ≡ row r → P
-no-row Uneven r h = differ (cc)
-no-row (NoSuchRow q) r h = differ (cc)
-no-row (Broken q) r h = differ (cc)
 
 some-row : {P : Type 0} (e : RowRefusal) → refused_told e ≡ nothing → P
 some-row Uneven h = differ (cc)

@@ -23,6 +23,7 @@ fn asked(t: Table, r: u32) -> Result<usize, RowRefusal>
 }
 
 // The parent of row r: none for row 0.
+#[tactic(auto, using(crate::proofs::Told::asked_within))]
 pub fn parent(t: Table, r: u32) -> Result<Option<usize>, RowRefusal>
     ensures { reply_told result ≡ parent_of (read t.entry) r }
 {
@@ -38,6 +39,7 @@ pub fn parent(t: Table, r: u32) -> Result<Option<usize>, RowRefusal>
 }
 
 // The row r itself, where its subtree lies in the table: the answer that goes with the part that `subtree` hands back.
+#[tactic(auto, using(crate::proofs::Told::asked_within))]
 pub fn subtree_top(t: Table, r: u32) -> Result<usize, RowRefusal>
     ensures { row_told result ≡ subtree_top (read t.entry) r }
 {
@@ -50,6 +52,7 @@ pub fn subtree_top(t: Table, r: u32) -> Result<usize, RowRefusal>
 }
 
 // The first child of row r.
+#[tactic(auto, using(crate::proofs::Told::top_within))]
 pub fn first_child(t: Table, r: u32) -> Result<Option<usize>, RowRefusal>
     ensures { reply_told result ≡ first_child (read t.entry) r }
 {
@@ -81,6 +84,7 @@ pub fn next_sibling(t: Table, r: u32) -> Result<Option<usize>, RowRefusal>
 }
 
 // The values of the subtree of row r, as that part of the lent column itself; the empty part where refused.
+#[tactic(auto, using(crate::proofs::Told::top_within))]
 pub fn subtree<'a>(t: Table<'a>, r: u32) -> &'a [u32]
     ensures { result.now ≡ values_of (read t.entry) r }
 {

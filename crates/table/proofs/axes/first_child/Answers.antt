@@ -1,5 +1,5 @@
 -- `table::axes::first_child` meets its contract.
-use Rattle.std.proofs.Common.{refl, arith}
+use Rattle.std.proofs.Common.{refl}
 use Rattle.plan.specs.Told.{reply_told}
 use Rattle.table.proofs.Told.{handed_on, top-told, child_handed}
 use Rattle.table.proofs.Replies.{child-is-none, child-is}
@@ -7,12 +7,6 @@ use Rattle.table.proofs.axes.first_child.Goals as goal
 
 pub returns-in_err-x : goal.returns-in_err-x
 returns-in_err-x c = handed_on reply_told _ c.from_residual.ensures.1 (child_handed _ _ _ c.in_err-x.ensures)
-
-pub offset_bounds-t-x : goal.offset_bounds-t-x
-offset_bounds-t-x c = omega (arith, (top-told _ _ _ c.in_ok-x.ensures).row_in.within)
-
-pub bounds-t-x : goal.bounds-t-x
-bounds-t-x c = (top-told _ _ _ c.in_ok-x.ensures).row_in.within
 
 pub returns-then-t-x-lt2 : goal.returns-then-t-x-lt2
 returns-then-t-x-lt2 c = child-is-none _ _ _ _ (top-told _ _ _ c.in_ok-x.ensures) refl c.if-t-x-lt2.true

@@ -12,11 +12,6 @@ returns-in_err-x c = handed_on reply_told _ c.from_residual.ensures.1 (parent_ha
 pub returns-then-x-eq0 : goal.returns-then-x-eq0
 returns-then-x-eq0 c = parent-is-none _ _ _ _ (asked-told _ _ _ c.in_ok-x.ensures) refl c.if-x-eq0.true
 
-pub bounds-t-x : goal.bounds-t-x
-bounds-t-x c =
-    let found = asked-told _ _ _ c.in_ok-x.ensures in
-    omega (arith, found.within, found.dist-length)
-
 pub returns-then-d-eq0 : goal.returns-then-d-eq0
 returns-then-d-eq0 c =
     let found = asked-told _ _ _ c.in_ok-x.ensures in

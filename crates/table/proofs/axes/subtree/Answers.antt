@@ -7,12 +7,6 @@ use Rattle.table.proofs.axes.subtree.Goals as goal
 pub returns-in_default : goal.returns-in_default
 returns-in_default c = part_handed _ _ _ c.in_default.ensures
 
-pub offset_bounds-t-x : goal.offset_bounds-t-x
-offset_bounds-t-x c = omega (arith, (top-told _ _ _ c.in-Ok.ensures).row_in.within)
-
-pub bounds-t-x : goal.bounds-t-x
-bounds-t-x c = (top-told _ _ _ c.in-Ok.ensures).row_in.within
-
 pub offset_bounds-t-x-2 : goal.offset_bounds-t-x-2
 offset_bounds-t-x-2 c =
     let found = (top-told _ _ _ c.in-Ok.ensures).row_in in

@@ -8,9 +8,6 @@ use Rattle.table.proofs.axes.subtree_top.Goals.{then-s-eq0-via-then-s-eq0, then-
 pub returns-in_err-x : goal.returns-in_err-x
 returns-in_err-x c = handed_on row_told _ c.from_residual.ensures.1 (top_handed _ _ _ c.in_err-x.ensures)
 
-pub bounds-t-x : goal.bounds-t-x
-bounds-t-x c = (asked-told _ _ _ c.in_ok-x.ensures).within
-
 pub returns-then-s-eq0 : goal.returns-then-s-eq0
 returns-then-s-eq0 c =
     let found = asked-told _ _ _ c.in_ok-x.ensures in

@@ -1,5 +1,4 @@
 -- `table::walk::start_walk` meets its contract.
-use Rattle.std.proofs.Common.{arith}
 use Rattle.plan.specs.Told.{start_told}
 use Rattle.table.proofs.Told.{handed_on, top-told, start_handed}
 use Rattle.table.proofs.Replies.{start_is}
@@ -7,15 +6,6 @@ use Rattle.table.proofs.walk.start_walk.Goals as goal
 
 pub returns-in_err-top : goal.returns-in_err-top
 returns-in_err-top c = handed_on start_told _ c.from_residual.ensures.1 (start_handed _ _ _ c.in_err-top.ensures)
-
-pub overflow_add-result : goal.overflow_add-result
-overflow_add-result c = omega (arith, (top-told _ _ _ c.in_ok-top.ensures).row_in.within)
-
-pub offset_bounds-t-top : goal.offset_bounds-t-top
-offset_bounds-t-top c = omega (arith, (top-told _ _ _ c.in_ok-top.ensures).row_in.within)
-
-pub bounds-t-top : goal.bounds-t-top
-bounds-t-top c = (top-told _ _ _ c.in_ok-top.ensures).row_in.within
 
 pub returns : goal.returns
 returns c = start_is _ _ _ _ (top-told _ _ _ c.in_ok-top.ensures) c.wide.ensures.0

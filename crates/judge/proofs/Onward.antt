@@ -25,7 +25,7 @@ use Rattle.plan.proofs.Kit.{true_of, T_and}
 use Rattle.plan.proofs.Tests.{even_lengths}
 use Rattle.plan.proofs.FourKinds.{run-within}
 use Rattle.plan.proofs.Tested.{passes, tested-passes}
-use Rattle.judge_record.specs.Trial.{Even, RunTested, SoundRows, Faces}
+use Rattle.judge_record.specs.Trial.{Even, RunTested, SoundRows, Faces, RightTrial}
 use Rattle.judge_record.specs.Way.{Meets, behind, stands}
 use Rattle.judge_record.proofs.Places.{sizes_are}
 use Rattle.judge_record.proofs.Ways.{Passes, Way, meets, way_at, way_inside, way_few, all_rows}
@@ -35,7 +35,6 @@ use Rattle.plan.specs.declared.refusal.Fault.{Fault}
 use Rattle.plan.specs.declared.refusal.Fault.TheVariants.{Kind, Location, Run as BadRun, Order, Alone}
 use Rattle.plan.specs.Told.{fault}
 use Rattle.plan.specs.Call.{judgement, published_of}
-use Rattle.judge.specs.Judgement.{RightFault}
 use Rattle.judge.specs.Underway.{Along}
 use Rattle.judge.proofs.Judging.{judged-first}
 
@@ -130,82 +129,93 @@ module _ {t i : Table} {l : List Record} {b : Option Record} {s : Stand} {k : �
   pub few-passed : k < most_records
   few-passed = omega (arith, h.few, all_records h)
 
-  module _ {p : Place} {m : Result ⊤ Fault} (faces : Faces t.dist t.size r p) (right : RightFault p i b r m) where
+  module _ {p : Place} (faces : Faces t.dist t.size r p) where
     -- its place is that in this tree
     found : p ≡ place_of f r
     found = faces.faces t.value h.table-sound
 
-    -- it fails a test: that is the judgement
-    pub fails : {e : Fault} → m ≡ Err e → Refused (fault e) k 0 ≡ published_of (even t && even i) t i l
-    fails {e} w =
-        let z : failing f i b r ≡ fault e = rw w at (right f found) in
-        rw (judged-left h, tested-fails f i k (fault e) b r rs z (fault_some e))
+    module _ {m : Result ⊤ Fault} (right : RightTrial p i b r m) where
+      -- it fails a test: that is the judgement
+      pub fails : {e : Fault} → m ≡ Err e → Refused (fault e) k 0 ≡ published_of (even t && even i) t i l
+      fails {e} w =
+          let z : fault e ≡ failing f i b r = rw w at (right f found) in
+          rw (judged-left h, tested-fails f i k (fault e) b r rs (sym z) (fault_some e))
 
-    module _ {x : ⊤} (w : m ≡ Ok x) where
-      -- it fails none
-      none-fails : failing f i b r ≡ 0
-      none-fails = rw w at (right f found)
+      module _ {x : ⊤} (w : m ≡ Ok x) where
+        -- it fails none
+        none-fails : failing f i b r ≡ 0
+        none-fails = let z : 0 ≡ failing f i b r = rw w at (right f found) in sym z
 
-      alone-passes : tested f i k b (r ∷ []) ≡ Passed
-      alone-passes = tested-next f i k b r [] none-fails ∙ tested-none f i (suc k) (Some r)
+        alone-passes : tested f i k b (r ∷ []) ≡ Passed
+        alone-passes = tested-next f i k b r [] none-fails ∙ tested-none f i (suc k) (Some r)
 
-      -- with it, too, the records up to here are a list that passes
-      passing_here : Passes t i (h.done ++ (r ∷ []))
-      passing_here = passing h (r ∷ []) (omega arith) alone-passes
+        -- with it, too, the records up to here are a list that passes
+        passing_here : Passes t i (h.done ++ (r ∷ []))
+        passing_here = passing h (r ∷ []) (omega arith) alone-passes
 
-      way_here : Way t i (h.done ++ (r ∷ [])) passing_here s (length h.done) (r ∷ [])
-      way_here =
-          subst (λ (x : Stand). Way t i (h.done ++ (r ∷ [])) passing_here x (length h.done) (r ∷ []))
-          (sym h.stood)
-          (way_at t i h.done (r ∷ []) passing_here)
+        way_here : Way t i (h.done ++ (r ∷ [])) passing_here s (length h.done) (r ∷ [])
+        way_here =
+            subst (λ (x : Stand). Way t i (h.done ++ (r ∷ [])) passing_here x (length h.done) (r ∷ []))
+            (sym h.stood)
+            (way_at t i h.done (r ∷ []) passing_here)
 
-      -- its run can be counted, and it can be met
-      pub can_count : T (has_run r) → r.from < length i.size
-      can_count u = (run-within i r (passes f i b r none-fails).run_sound u).0
+        -- its run can be counted, and it can be met
+        pub can_count : T (has_run r) → r.from < length i.size
+        can_count u = (run-within i r (passes f i b r none-fails).run_sound u).0
 
-      pub can_meet : {n : ℕ} → n ≡ brought i.size r → Meets s r n
-      can_meet e =
-          rw e (meets t i (h.done ++ (r ∷ [])) passing_here s (length h.done) r [] way_here)
+        pub can_meet : {n : ℕ} → n ≡ brought i.size r → Meets s r n
+        can_meet e =
+            rw e (meets t i (h.done ++ (r ∷ [])) passing_here s (length h.done) r [] way_here)
 
-      -- its run passed
-      run-passed : RunTested i (Some r)
-      run-passed =
-          record {
-            passed = λ q e.
-                let same : r ≡ q = cc in
-                subst (λ (x : Record). T (runs i x)) same (passes f i b r none-fails).run_sound;
-          }
+        -- its run passed
+        run-passed : RunTested i (Some r)
+        run-passed =
+            record {
+              passed = λ q e.
+                  let same : r ≡ q = cc in
+                  subst (λ (x : Record). T (runs i x)) same (passes f i b r none-fails).run_sound;
+            }
 
-      -- where it leaves the rows
-      end_found : p.end.0 ≡ goes_on_at t.size r
-      unfolding place_of
-      end_found =
-          ap (λ (x : Place). x.end.0) found
-          ∙ ap (λ (S : List ℕ). goes_on_at S r) (sizes_are t.dist t.size t.value h.table-sound)
+        -- where it leaves the rows
+        end_found : p.end.0 ≡ goes_on_at t.size r
+        unfolding place_of
+        end_found =
+            ap (λ (x : Place). x.end.0) found
+            ∙ ap (λ (S : List ℕ). goes_on_at S r) (sizes_are t.dist t.size t.value h.table-sound)
 
-      stood-behind : {n : ℕ} {s' : Stand} → n ≡ brought i.size r → s' ≡ behind s (meeting s r p.end.0 n)
-          → s' ≡ stands t.size i.size start (h.done ++ (r ∷ []))
-      stood-behind {n} e c =
-          c ∙ rw (end_found, e, h.stood) (sym (stands-more t.size i.size start h.done r))
+        stood-behind : {n : ℕ} {s' : Stand} → n ≡ brought i.size r → s' ≡ behind s (meeting s r p.end.0 n)
+            → s' ≡ stands t.size i.size start (h.done ++ (r ∷ []))
+        stood-behind {n} e c =
+            c ∙ rw (end_found, e, h.stood) (sym (stands-more t.size i.size start h.done r))
 
-      -- the exam goes on behind it
-      pub goes_on : {n : ℕ} {s' : Stand} → n ≡ brought i.size r → s' ≡ behind s (meeting s r p.end.0 n)
-          → Along t i l (Some r) s' (k + 1) rs
-      goes_on {n} {s'} e c =
-          record {
-            columns-even = h.columns-even;
-            table-sound = h.table-sound;
-            few = h.few;
-            done = h.done ++ (r ∷ []);
-            whole = h.whole ∙ sym (append_assoc h.done (r ∷ []) rs);
-            places = omega (arith, h.places, length-append h.done (r ∷ []));
-            tests = λ qs. rw (append_assoc h.done (r ∷ []) qs, add-one k)
-                (h.tests (r ∷ qs) ∙ tested-next f i k b r qs none-fails);
-            stood = stood-behind e c;
-            run-tested = run-passed;
-          }
+        -- the exam goes on behind it
+        pub goes_on : {n : ℕ} {s' : Stand} → n ≡ brought i.size r → s' ≡ behind s (meeting s r p.end.0 n)
+            → Along t i l (Some r) s' (suc k) rs
+        goes_on {n} {s'} e c =
+            record {
+              columns-even = h.columns-even;
+              table-sound = h.table-sound;
+              few = h.few;
+              done = h.done ++ (r ∷ []);
+              whole = h.whole ∙ sym (append_assoc h.done (r ∷ []) rs);
+              places = omega (arith, h.places, length-append h.done (r ∷ []));
+              tests = λ qs. rw (append_assoc h.done (r ∷ []) qs)
+                  (h.tests (r ∷ qs) ∙ tested-next f i k b r qs none-fails);
+              stood = stood-behind e c;
+              run-tested = run-passed;
+            }
 
 -- ---- behind the last record
+empty : (rs : List Record) → length rs ≡ 0 → rs ≡ []
+empty [] e = refl
+empty (r ∷ rs) e = absurd (omega arith)
+
+-- where so many records passed as there are, none is left
+pub none_left : {t i : Table} {l : List Record} {b : Option Record} {s : Stand} {k : ℕ} {rs : List Record}
+    → Along t i l b s k rs → length l ≤ k → Along t i l b s k []
+none_left {t} {i} {l} {b} {s} {k} {rs} h m =
+    let z : rs ≡ [] = empty rs (omega (arith, all_records h)) in rw z at h
+
 module _ {t i : Table} {l : List Record} {b : Option Record} {s : Stand} {k : ℕ} (h : Along t i l b s k []) where
   all_done : l ≡ h.done ++ []
   all_done = h.whole

@@ -1,16 +1,8 @@
 -- What tests 1 to 3 answer, and a list with columns of equal length.
 -- Assumes nothing.
-use Rattle.std.specs.Prelude.{ℕ, ⊤, ◌≡◌, ◌&&◌, leb, length, Option, Result, Ok, Err}
-use Rattle.plan.specs.declared.Record.{Record}
-use Rattle.plan.specs.declared.Place.{Place}
+use Rattle.std.specs.Prelude.{ℕ, ◌≡◌, ◌&&◌, leb, length}
 use Rattle.plan.specs.declared.Verdict.{Verdict}
-use Rattle.plan.specs.declared.refusal.Fault.{Fault}
-use Rattle.plan.specs.Tree.{Forest}
 use Rattle.plan.specs.Table.{Table, even, sound}
-use Rattle.plan.specs.Paint.{Painted}
-use Rattle.plan.specs.Way.{place_of}
-use Rattle.plan.specs.Records.{failing}
-use Rattle.plan.specs.Told.{fault}
 use Rattle.plan.specs.Call.{then, test, most_records}
 use Rattle.plan.specs.Lent.{Lent}
 
@@ -25,13 +17,3 @@ pub record Level (l : Lent) : Type 0 where
 abbrev pub first_tests : Table → Table → (records : ℕ) → Verdict
 first_tests t i records =
     then (test (even t && even i) 1 0 0) (then (test (sound t) 2 0 0) (test (leb records most_records) 3 0 0))
-
-abbrev pub number_told : Fault → ℕ
-number_told f = fault f
-
-abbrev pub fault_told : Result ⊤ Fault → ℕ
-fault_told (Ok x) = 0
-fault_told (Err e) = fault e
-
-abbrev pub RightFault : Place → Table → Option Record → Record → Result ⊤ Fault → Type 0
-RightFault p i before r a = (f : Forest Painted) → p ≡ place_of f r → fault_told a ≡ failing f i before r

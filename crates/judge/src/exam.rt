@@ -1,18 +1,17 @@
 // The exam of a list: tests 1 to 3 before its first record, tests 4 to 8 of one record after another, test 9 behind the
 // last. Nothing is written, and no array is kept.
-ghost use Rattle.std.specs.Prelude.{◌≡◌, ◌<◌, ◌≤◌, ◌&&◌, leb};
+ghost use Rattle.std.specs.Prelude.{◌≡◌, ◌&&◌, leb};
 ghost use Rattle.plan.specs.Table.{read, even, sound as soundly, most_rows};
 ghost use Rattle.plan.specs.Call.{test, judgement, published_of, most_records};
 ghost use Rattle.plan.specs.Told.{even_told, verdict_told, judgement_told};
-ghost use Rattle.judge_record.specs.Trial.{Even, RunTested};
-ghost use Rattle.judge.specs.Judgement.{first_tests, number_told, RightFault};
+ghost use Rattle.judge.specs.Judgement.{first_tests};
 
 use judge_record::place::place_of;
 use judge_record::way::{onward, run_rows};
-use judge_record::{Trial, tried as tried_before};
+use judge_record::tried;
 use plan::lent::{Records, Table};
-use plan::refusal::{Fault, Refusal, Uneven};
-use plan::{Answer, Place, Record, Stand, Verdict, wide};
+use plan::refusal::{Refusal, Uneven};
+use plan::{Answer, Record, Stand, Verdict, wide};
 use table::sound;
 use table::test_even as even_before;
 
@@ -22,29 +21,6 @@ fn test_even(t: Table) -> Result<(), Uneven>
     match even_before(t.dist, t.size, t.value) {
         Verdict::Passed => Ok(()),
         Verdict::Failed(_, _, _) => Err(Uneven),
-    }
-}
-
-fn fault(number: u32) -> Fault
-    requires { (3 < number) × (number < 9) }
-    ensures { number_told result ≡ number }
-{
-    match number {
-        4 => Fault::Kind,
-        5 => Fault::Location,
-        6 => Fault::Run,
-        7 => Fault::Order,
-        _ => Fault::Alone,
-    }
-}
-
-fn tried(place: Place, i: Table, before: Option<Record>, r: Record) -> Result<(), Fault>
-    requires { Even (read i) × RunTested (read i) before }
-    ensures { RightFault place (read i.entry) before r result }
-{
-    match tried_before(place, i.dist, i.size, i.value, before, r) {
-        Trial::Passed => Ok(()),
-        Trial::Failed(number) => Err(fault(number)),
     }
 }
 
@@ -101,7 +77,7 @@ pub fn judged<L: Records>(t: Table, l: &L, i: Table) -> Result<u64, Refusal>
     for j in 0..l.len() {
         let r = l.record(j);
         let place = place_of(t.dist, t.size, r);
-        if let Err(fault) = tried(place, i, before, r) {
+        if let Err(fault) = tried(place, i.dist, i.size, i.value, before, r) {
             return Err(Refusal::BadRecord(fault, j as u32));
         }
         stand = onward(stand, r, place.end, run_rows(i.size, r));

@@ -1,5 +1,5 @@
 // A list that is lent as five columns.
-ghost use Rattle.std.specs.Prelude.{◌≡◌, MatchResult, false};
+ghost use Rattle.std.specs.Prelude.{◌≡◌, MatchResult, true, false};
 ghost use Rattle.plan.specs.Lent.{read_list, level, list};
 ghost use Rattle.judge.specs.Judgement.{Level as IsLevel};
 
@@ -16,8 +16,10 @@ pub struct Level<'a> {
 
 impl<'a> Level<'a> {
     // Test 1 of the list's own columns: they are equally long.
+    #[tactic(auto, unfolding(plan::specs::Lent::level))]
     pub fn of(l: Changes<'a>) -> Result<Level<'a>, Uneven>
-        ensures { MatchResult result (λ v. v.columns ≡ l.entry) (λ _. level (read_list l.entry) ≡ false) }
+        ensures { MatchResult result (λ v. (v.columns ≡ l.entry) × (level (read_list l.entry) ≡ true))
+            (λ _. level (read_list l.entry) ≡ false) }
     {
         let n = l.kind.len();
         if l.location.len() != n || l.parent.len() != n || l.from.len() != n || l.value.len() != n {

@@ -8,7 +8,7 @@ ghost use Rattle.judge_record.specs.Trial.{trial, run_at, same_run, Even, RunTes
 use plan::lent::Table;
 use plan::refusal::Fault;
 use plan::{Record, wide};
-use table::sound;
+use table::sound::is_sound;
 
 // Does it bring a run?
 pub fn has_run(r: Record) -> bool
@@ -26,7 +26,14 @@ fn run_at(i: Table, f: usize) -> bool
         return false;
     }
     let e = f + wide(i.size[f]);
-    e <= i.size.len() && sound::is_sound(&i.dist[f..e], &i.size[f..e], &i.value[f..e])
+    if e > i.size.len() {
+        return false;
+    }
+    is_sound(Table {
+        dist: &i.dist[f..e],
+        size: &i.size[f..e],
+        value: &i.value[f..e],
+    })
 }
 
 // Does the record before bring the same run? Then it is tested already.

@@ -57,9 +57,7 @@ pub fn judged<L: Records>(t: Table, l: &L, i: Table) -> Result<u64, Refusal>
     for j in 0..l.len() {
         let r = l.record(j);
         let place = place_of(t.dist, t.size, r);
-        if let Err(fault) = tried(place, i, before, r) {
-            return Err(Refusal::BadRecord(fault, j as u32));
-        }
+        tried(place, i, before, r).map_err(|fault| Refusal::BadRecord(fault, j as u32))?;
         stand = onward(stand, r, place.end, run_rows(i.size, r));
         before = Some(r);
     }

@@ -1,11 +1,10 @@
 -- A list lent as columns: test 1 of its columns, and its records one after another.
 -- Assumes nothing.
-use Prim.Native.Nat.{ℕ, zero, suc, ◌+◌, ◌-◌, ◌≤◌, ◌<◌}
+use Prim.Native.Nat.{ℕ, zero, suc, ◌+◌, ◌<◌}
 use native.Mathlib.Omega.{arith}
-use native.Mathlib.Numerals.{add-one}
 use mathlib.Core.Path.{◌≡◌, refl, ap}
-use mathlib.Core.Bool.{true, false}
-use mathlib.Core.List.{List, [], ◌∷◌}
+use mathlib.Core.Bool.{false}
+use mathlib.Core.List.{◌∷◌}
 use lib.ListN.{length, drop}
 use Rattle.plan.specs.Table.{Table}
 use Rattle.plan.specs.Call.{judged, published}

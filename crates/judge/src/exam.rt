@@ -7,8 +7,8 @@ ghost use Rattle.plan.specs.Told.{verdict_told, judgement_told};
 ghost use Rattle.judge.specs.Judgement.{first_tests};
 
 use judge_record::place::place_of;
-use judge_record::way::{onward, run_rows};
 use judge_record::tried;
+use judge_record::way::{onward, run_rows};
 use plan::lent::{Records, Table};
 use plan::refusal::Refusal;
 use plan::{Answer, Record, Stand, wide};
@@ -57,7 +57,9 @@ pub fn judged<L: Records>(t: Table, l: &L, i: Table) -> Result<u64, Refusal>
     for j in 0..l.len() {
         let r = l.record(j);
         let place = place_of(t.dist, t.size, r);
-        tried(place, i, before, r).map_err(|fault| Refusal::BadRecord(fault, j as u32))?;
+        if let Err(fault) = tried(place, i, before, r) {
+            return Err(Refusal::BadRecord(fault, j as u32));
+        }
         stand = onward(stand, r, place.end, run_rows(i.size, r));
         before = Some(r);
     }

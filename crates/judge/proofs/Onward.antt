@@ -27,7 +27,7 @@ use Rattle.plan.proofs.Tested.{passes, tested-passes}
 use Rattle.judge_record.specs.Trial.{Even, RunTested, Faces, RightTrial}
 use Rattle.judge_record.specs.Way.{Meets, behind, stands}
 use Rattle.judge_record.proofs.Places.{sizes_are}
-use Rattle.judge_record.proofs.Ways.{Passes, Way, meets, way_at, way_inside, way_few, all_rows}
+use Rattle.judge_record.proofs.Ways.{Passes, Way, meets, way_at, way_inside, all_rows}
 use Rattle.plan.specs.declared.Judgement.{Judgement}
 use Rattle.plan.specs.declared.Judgement.TheVariants.{Refused}
 use Rattle.plan.specs.declared.refusal.Fault.{Fault}
@@ -229,12 +229,9 @@ module _ {t i : Table} {l : List Record} {b : Option Record} {s : Stand} {k : �
       all_rows t i (h.done ++ []) passing_all s (length h.done) way_all
       ∙ ap (λ (x : List Record). count (result t i x)) (sym all_done)
 
-  -- and few
-  pub few-rows : (s.row.0 ≤ length t.size) × (s.out.0 ≤ 134215680)
-  few-rows = (
-    way_inside t i (h.done ++ []) passing_all s (length h.done) [] way_all,
-    way_few t i (h.done ++ []) passing_all s (length h.done) [] way_all,
-  )
+  -- and the rows go on inside the table
+  pub row_inside : s.row.0 ≤ length t.size
+  row_inside = way_inside t i (h.done ++ []) passing_all s (length h.done) [] way_all
 
   -- test 9 of that many rows is the judgement
   pub published-rows : {o r : ℕ} {a : Judgement} → o ≡ s.out.0 → r ≡ s.row.0

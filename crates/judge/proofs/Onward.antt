@@ -1,5 +1,5 @@
--- The exam of a list, record by record: how it goes on and ends. The records that passed are themselves a list that passes,
--- so the way along them stands where the exam does, and behind the last it has counted the rows of the result.
+-- The exam of a list, record by record: how it goes on and ends. The records that passed are themselves a list that
+-- passes, so the way along them stands where the exam does, and behind the last it has counted the rows of the result.
 -- Assumes nothing.
 use Prim.Native.Nat.{ℕ, suc, ◌+◌, ◌-◌, ◌≤◌, ◌<◌}
 use native.Mathlib.Omega.{arith}

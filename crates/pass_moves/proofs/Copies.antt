@@ -34,9 +34,6 @@ copy_more c u v f at j n h l m e =
     rw (e, ← get_or-drop f c j 0, add-one j)
     (paste-suc v at (drop f c) j 0 (omega arith) (omega (arith, length-drop f c)))
 
-pub copy_all : (c u v : List ℕ) (f at j n : ℕ) → j ≡ n → u ≡ copied v at c f j → u ≡ copied v at c f n
-copy_all c u v f at j n h e = rw h at e
-
 -- ---- distances that lead out of a part
 pub hung-more : (d x j : ℕ) → j < x → hung d j x ≡ d + j
 hung-more d x j h = rw (lt-ltb j x h)

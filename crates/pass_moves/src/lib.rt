@@ -67,10 +67,7 @@ fn hang(d: u32, j: u32, x: u32) -> u32
     requires { d + j ≤ most_rows }
     ensures { result ≡ hung d j x }
 {
-    if x > j {
-        return d + j;
-    }
-    x
+    if x > j { d + j } else { x }
 }
 
 // Copies a part of the distances, of rows that all lie under the open row, d rows before the part.

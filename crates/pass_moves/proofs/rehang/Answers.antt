@@ -2,7 +2,7 @@
 -- Assumes nothing.
 use native.Mathlib.Omega.{arith}
 use mathlib.Core.Path.{refl}
-use Rattle.pass_moves.proofs.Copies.{copy_none, copy_all, rehung-more}
+use Rattle.pass_moves.proofs.Copies.{copy_none, rehung-more}
 use Rattle.pass_moves.proofs.rehang.Goals as goal
 
 pub loop-j-init : goal.loop-j-init
@@ -12,6 +12,3 @@ pub loop-j-preserved : goal.loop-j-preserved
 loop-j-preserved c =
     let pre = c.requires in
     rehung-more _ _ _ _ _ _ _ _ _ _ pre.0 pre.1 (omega arith) c.loop-j.invariant refl c.hang.ensures
-
-pub returns : goal.returns
-returns c = copy_all _ _ _ _ _ _ _ (omega arith) c.loop-j.invariant

@@ -4,7 +4,6 @@
 
 ghost use Rattle.std.specs.Prelude.{◌≡◌, ◌+◌, ◌-◌, ◌<◌, ◌≤◌, length, get_or, set, drop};
 ghost use Rattle.plan.specs.Table.{table, read, most_rows};
-ghost use Rattle.plan.specs.Way.{old_pre};
 ghost use Rattle.pass_moves.specs.Written.{row, out, on_to, cursor, copied, laid, hung, rehung};
 ghost use Rattle.pass_moves.specs.Written.{Ended, Pastes, Unread, Stretches, Wrote, Revalues, Revalued, Closes};
 
@@ -26,7 +25,7 @@ pub struct Cursor {
 // The row behind a row and its subtree.
 pub fn end(size: &[u32], row: OldPre) -> OldPre
     requires { Ended size.now row.0 }
-    ensures { result ≡ old_pre (row.0 + get_or size.now row.0 0) }
+    ensures { result.0 ≡ row.0 + get_or size.now row.0 0 }
 {
     OldPre(row.0 + size[row.0 as usize])
 }

@@ -38,10 +38,10 @@ fn step(
 ) -> Cursor
     requires { let u = table ndist.old nsize.old nvalue.old in
         Readied (read t) u c p.0 q.0 × Away p.0 q.0 (row c) c.parent.0 }
-    ensures { let t' = read t.entry in
+    ensures { let t = read t.entry in
         let u = table ndist.old nsize.old nvalue.old in
         let v = table ndist.new nsize.new nvalue.new in
-        Went t' u c p.0 q.0 v result × (ahead t' result < ahead t' c) }
+        Went t u c p.0 q.0 v result × (ahead t result < ahead t c) }
 {
     let e = end(t.size, c.parent);
     if c.stand.row.0 == e.0 {
@@ -70,10 +70,10 @@ pub fn upto(
 ) -> Cursor
     requires { let u = table ndist.old nsize.old nvalue.old in
         Readied (read t) u start p.0 q.0 }
-    ensures { let t' = read t.entry in
+    ensures { let t = read t.entry in
         let u = table ndist.old nsize.old nvalue.old in
         let v = table ndist.new nsize.new nvalue.new in
-        Went t' u start p.0 q.0 v result × (row result ≡ p.0) × (result.parent.0 ≡ q.0) }
+        Went t u start p.0 q.0 v result × (row result ≡ p.0) × (result.parent.0 ≡ q.0) }
 {
     let mut c = start;
     while elsewhere(c, p, q) {

@@ -1,39 +1,19 @@
 // The exam of a list: tests 1 to 3 before its first record, tests 4 to 8 of one record after another, test 9 behind the
 // last. Nothing is written, and no array is kept.
 ghost use Rattle.std.specs.Prelude.{◌≡◌, ◌&&◌, leb};
-ghost use Rattle.plan.specs.Table.{read, even, sound as soundly, most_rows};
+ghost use Rattle.plan.specs.Table.{read, even, most_rows};
 ghost use Rattle.plan.specs.Call.{test, judgement, published_of, most_records};
-ghost use Rattle.plan.specs.Told.{even_told, verdict_told, judgement_told};
+ghost use Rattle.plan.specs.Told.{verdict_told, judgement_told};
 ghost use Rattle.judge.specs.Judgement.{first_tests};
 
 use judge_record::place::place_of;
 use judge_record::way::{onward, run_rows};
 use judge_record::tried;
 use plan::lent::{Records, Table};
-use plan::refusal::{Refusal, Uneven};
-use plan::{Answer, Record, Stand, Verdict, wide};
-use table::sound;
-use table::test_even as even_before;
-
-fn test_even(t: Table) -> Result<(), Uneven>
-    ensures { even_told result ≡ test (even (read t.entry)) 1 0 0 }
-{
-    match even_before(t.dist, t.size, t.value) {
-        Verdict::Passed => Ok(()),
-        Verdict::Failed(_, _, _) => Err(Uneven),
-    }
-}
-
-// Test 2: the table is sound.
-fn test_sound(t: Table) -> Result<(), Refusal>
-    ensures { verdict_told result ≡ test (soundly (read t.entry)) 2 0 0 }
-{
-    if sound::is_sound(t.dist, t.size, t.value) {
-        Ok(())
-    } else {
-        Err(Refusal::Unsound)
-    }
-}
+use plan::refusal::Refusal;
+use plan::{Answer, Record, Stand, wide};
+use table::sound::test_sound;
+use table::test_even;
 
 // Test 3: the list has at most 1,024 records.
 fn test_length(n: usize) -> Result<(), Refusal>
@@ -77,7 +57,7 @@ pub fn judged<L: Records>(t: Table, l: &L, i: Table) -> Result<u64, Refusal>
     for j in 0..l.len() {
         let r = l.record(j);
         let place = place_of(t.dist, t.size, r);
-        if let Err(fault) = tried(place, i.dist, i.size, i.value, before, r) {
+        if let Err(fault) = tried(place, i, before, r) {
             return Err(Refusal::BadRecord(fault, j as u32));
         }
         stand = onward(stand, r, place.end, run_rows(i.size, r));

@@ -4,12 +4,12 @@
 use Prim.Native.Nat.{ℕ, ◌+◌, ◌≤◌, ◌<◌}
 use native.Mathlib.Omega.{arith}
 use mathlib.Core.Path.{◌≡◌, sym, ap, ◌∙◌, subst}
-use mathlib.Core.Bool.{Bool, true, false, cond, ◌&&◌, ◌||◌}
-use mathlib.Core.Logic.{◌↔◌, inl, inr}
+use mathlib.Core.Bool.{Bool, cond, ◌&&◌, ◌||◌}
+use mathlib.Core.Logic.{◌↔◌}
 use mathlib.Core.List.{List}
-use lib.Dec.{T, ltb, eqb, ltb→lt, lt→ltb, eqb→eq}
+use lib.Dec.{T, ltb}
 use lib.ListN.{length, get_or}
-use borrow.Author.Tests.{le-ltb}
+use Rattle.std.proofs.lemmas.Bool.Decides.{nat_tests}
 use Rattle.plan.specs.declared.Record.{Record}
 use Rattle.plan.specs.declared.Place.{Place}
 use Rattle.plan.specs.Tree.{Forest, count, sizes}
@@ -19,38 +19,12 @@ use Rattle.plan.specs.Open.{QuickPlace}
 use Rattle.plan.specs.Paint.{Painted, old, plan}
 use Rattle.plan.specs.Records.{is_insert, is_rename, located}
 use Rattle.plan.specs.Way.{old_pre, goes_on_at, place_of}
-use Rattle.plan.proofs.Kit.{true_of, false_of, T-or, T_and, and_T, or_left, or_right, eq→eqb, by_side, cond_elim}
 use Rattle.plan.proofs.Rows.{below_fits, size-at}
 use Rattle.plan.proofs.Planned.{plan-sizes, plan-dists, plan-length}
 use Rattle.plan.proofs.OpenPlaces.{quick_exactly}
 use Rattle.table.proofs.Parents.{sound_lengths}
 use Rattle.judge_record.specs.Trial.{quick_place, open_for, SoundRows}
 use Rattle.judge_record.specs.Way.{EndsLow}
-
--- two tests that tell the same are equal
-pub same_test : (x y : Bool) → T x ↔ T y → x ≡ y
-same_test x true h = true_of x (h.1 tt)
-same_test x false h = false_of x h.0
-
-module _ (dist size : List ℕ) (p q : ℕ) where
-  abbrev q_end : ℕ
-  q_end = q + get_or size q 0
-
-  -- ---- the test in constant time
-  quick_told : (value : List ℕ) → T (quick_place dist size p q) ↔ QuickPlace (table dist size value) p q
-  quick_told value = (
-    T-or (eqb p q_end) (ltb p (length size) && eqb (q + get_or dist p 0) p) (λ t. inl (eqb→eq p q_end t))
-        (λ t.
-        let w = T_and (ltb p (length size)) (eqb (q + get_or dist p 0) p) t in
-        inr (ltb→lt p (length size) w.0, eqb→eq (q + get_or dist p 0) p w.1)),
-    tell,
-  )
-    where
-      tell : QuickPlace (table dist size value) p q → T (quick_place dist size p q)
-      tell (inl e) = or_left (eqb p q_end) _ (eq→eqb p q_end e)
-      tell (inr c) =
-          or_right (eqb p q_end) (ltb p (length size) && eqb (q + get_or dist p 0) p)
-          (and_T (ltb p (length size)) _ (lt→ltb p (length size) c.0) (eq→eqb (q + get_or dist p 0) p c.1))
 
 -- ---- on a sound table
 module _ (dist size value : List ℕ) (h : T (sound (table dist size value))) where
@@ -70,29 +44,22 @@ module _ (dist size value : List ℕ) (h : T (sound (table dist size value))) wh
   pub ends_low : (p : ℕ) → p < n → p + get_or size p 0 ≤ n
   ends_low p l =
       let m : p < count f = omega (arith, rows_are) in
-      omega (
-        arith,
-        rows_are,
-        size-at f p m,
-        below_fits f p m,
-        ap (λ (s : List ℕ). get_or s p 0) sizes_are,
-      )
+      omega (arith, rows_are, size-at f p m, below_fits f p m, ap (λ (s : List ℕ). get_or s p 0) sizes_are)
 
   pub rows-low : n ≤ 65535
   rows-low = (sound_lengths (table dist size value) h).few
 
+  -- on it the test in constant time finds the open places
   quick_open : (p q : ℕ) → q < n → open_place f p q ≡ quick_place dist size p q
   quick_open p q l =
       let w : T (open_place f p q) ↔ QuickPlace (table dist size value) p q =
       subst (λ (t : Table). T (open_place f p q) ↔ QuickPlace t p q)
       (λ i. table (plan-dists old (table dist size value) h i) (sizes_are i) value)
       (quick_exactly f value q (omega (arith, rows_are)) p) in
-      let v = quick_told dist size p q value in
-      same_test (open_place f p q) (quick_place dist size p q) ((λ t. v.1 (w.0 t)), (λ t. w.1 (v.0 t)))
+      grind (arith, nat_tests)
 
   insert-place : (p q : ℕ) → (ltb q n && open_place f p q) ≡ (ltb q n && quick_place dist size p q)
-  insert-place p q =
-      by_side q n (λ l. ap (λ (b : Bool). ltb q n && b) (quick_open p q l)) (λ l. rw (le-ltb q n l))
+  insert-place p q = grind (arith, nat_tests, quick_open)
 
   -- what is read is what the record asks
   pub read_place : (r : Record) (p : Place) → p.rows ≡ n → p.end ≡ old_pre (goes_on_at size r)
@@ -125,5 +92,4 @@ placed p r =
 
 pub located_is : (f : Forest Painted) (p : Place) (r : Record) → p ≡ place_of f r → located f r ≡ placed p r
 unfolding located place_of
-located_is f p r e =
-    rw e (cond_elim (λ (x : Bool). x ≡ placed (place_of f r) r) (is_insert r) _ _ (λ e. rw e) (λ e. rw e))
+located_is f p r e = grind (arith, nat_tests)

@@ -18,9 +18,9 @@ trial true f = Ok tt
 trial false f = Err f
 
 -- an answer as the number of the test that found the fault, or 0
-abbrev pub told : Result ⊤ Fault → ℕ
-told (Ok x) = 0
-told (Err f) = fault f
+abbrev pub fault_told : Result ⊤ Fault → ℕ
+fault_told (Ok x) = 0
+fault_told (Err f) = fault f
 
 -- the test of an open place in constant time: q ends at p, or row p is a child of q
 abbrev pub quick_place : (dist size : List ℕ) → (p q : ℕ) → Bool
@@ -67,4 +67,4 @@ RightPlace p r t = (f : Forest Painted) → p ≡ place_of f r → t ≡ trial (
 
 -- tests 4 to 8 are, with the insertions i and what stands before r
 abbrev pub RightTrial : Place → Table → Option Record → Record → Result ⊤ Fault → Type 0
-RightTrial p i before r t = (f : Forest Painted) → p ≡ place_of f r → told t ≡ failing f i before r
+RightTrial p i before r t = (f : Forest Painted) → p ≡ place_of f r → fault_told t ≡ failing f i before r

@@ -4,13 +4,14 @@
 
 ghost use Rattle.std.specs.Prelude.{◌≡◌};
 ghost use Rattle.plan.specs.declared.refusal.Fault.TheVariants.{Kind};
-ghost use Rattle.plan.specs.Table.{table};
+ghost use Rattle.plan.specs.Table.{read};
 ghost use Rattle.plan.specs.Records.{known};
 ghost use Rattle.judge_record.specs.Trial.{trial, Even, RunTested, RightTrial};
 
 use crate::order::{test_alone, test_order};
 use crate::place::test_location;
 use crate::run::test_run;
+use plan::lent::Table;
 use plan::refusal::Fault;
 use plan::{Place, Record};
 
@@ -32,22 +33,13 @@ pub fn test_kind(r: Record) -> Result<(), Fault>
 
 // Tests 4 to 8 of a record, in their order: the first that fails decides.
 #[tactic(auto, unfolding(plan::specs::Records::failing))]
-pub fn tried(
-    place: Place,
-    idist: &[u32],
-    isize: &[u32],
-    ivalue: &[u32],
-    before: Option<Record>,
-    r: Record,
-) -> Result<(), Fault>
-    requires { let i = table idist.now isize.now ivalue.now in
-        Even i × RunTested i before }
-    ensures { let i = table idist.now isize.now ivalue.now in
-        RightTrial place i before r result }
+pub fn tried(place: Place, i: Table, before: Option<Record>, r: Record) -> Result<(), Fault>
+    requires { Even (read i) × RunTested (read i) before }
+    ensures { RightTrial place (read i.entry) before r result }
 {
     test_kind(r)?;
     test_location(place, r)?;
-    test_run(idist, isize, ivalue, before, r)?;
+    test_run(i, before, r)?;
     test_order(before, r)?;
     test_alone(before, r)
 }

@@ -31,10 +31,13 @@ pub fn test_order(before: Option<Record>, r: Record) -> Result<(), Fault>
 pub fn test_alone(before: Option<Record>, r: Record) -> Result<(), Fault>
     ensures { result ≡ trial (alone before r) Alone }
 {
-    match before {
-        Some(p)
-            if p.location == r.location && p.kind != Record::INSERT && r.kind != Record::INSERT =>
-            Err(Fault::Alone),
-        _ => Ok(()),
+    let Some(p) = before else {
+        return Ok(());
+    };
+    let apart = p.location != r.location;
+    if apart || p.kind == Record::INSERT || r.kind == Record::INSERT {
+        Ok(())
+    } else {
+        Err(Fault::Alone)
     }
 }

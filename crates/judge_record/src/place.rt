@@ -2,6 +2,7 @@
 ghost use Rattle.std.specs.Prelude.{◌≡◌, ◌<◌, length};
 ghost use Rattle.plan.specs.Way.{old_pre, goes_on_at};
 ghost use Rattle.judge_record.specs.Trial.{quick_place, open_for, SoundRows, Faces, RightPlace};
+ghost use Rattle.judge_record.specs.Way.{EndsLow};
 
 use crate::way::row_behind;
 use plan::refusal::Fault;
@@ -25,8 +26,8 @@ fn is_open(dist: &[u32], size: &[u32], r: Record) -> bool
 }
 
 // The old row at which the rows go on behind the record; where its location is no row, that is the location.
-fn end_of(dist: &[u32], size: &[u32], r: Record) -> OldPre
-    requires { SoundRows dist.now size.now }
+fn end_of(size: &[u32], r: Record) -> OldPre
+    requires { r.location < length size.now → EndsLow size.now r }
     ensures { result ≡ old_pre (goes_on_at size.now r) }
 {
     if wide(r.location) < size.len() {
@@ -44,7 +45,7 @@ pub fn place_of(dist: &[u32], size: &[u32], r: Record) -> Place
 {
     Place {
         rows: size.len() as u32,
-        end: end_of(dist, size, r),
+        end: end_of(size, r),
         opens: is_open(dist, size, r),
     }
 }

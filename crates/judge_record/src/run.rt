@@ -1,13 +1,14 @@
 // Test 6: the run of a record among the insertions.
 ghost use Rattle.std.specs.Prelude.{◌≡◌, ◌||◌};
 ghost use Rattle.plan.specs.declared.refusal.Fault.TheVariants.{Run as BadRun};
-ghost use Rattle.plan.specs.Table.{table};
+ghost use Rattle.plan.specs.Table.{read};
 ghost use Rattle.plan.specs.Records.{is_insert, is_replace, runs};
 ghost use Rattle.judge_record.specs.Trial.{trial, run_at, same_run, Even, RunTested};
 
+use plan::lent::Table;
 use plan::refusal::Fault;
 use plan::{Record, wide};
-use table::sound;
+use table::sound::is_sound;
 
 // Does it bring a run?
 pub fn has_run(r: Record) -> bool
@@ -17,15 +18,22 @@ pub fn has_run(r: Record) -> bool
 }
 
 // Is there a run at row f: does it start and end within the insertions, and is it sound by itself?
-fn run_at(idist: &[u32], isize: &[u32], ivalue: &[u32], f: usize) -> bool
-    requires { Even (table idist.now isize.now ivalue.now) }
-    ensures { result ≡ run_at (table idist.now isize.now ivalue.now) f }
+fn run_at(i: Table, f: usize) -> bool
+    requires { Even (read i) }
+    ensures { result ≡ run_at (read i.entry) f }
 {
-    if f >= isize.len() {
+    if f >= i.size.len() {
         return false;
     }
-    let e = f + wide(isize[f]);
-    e <= isize.len() && sound::is_sound(&idist[f..e], &isize[f..e], &ivalue[f..e])
+    let e = f + wide(i.size[f]);
+    if e > i.size.len() {
+        return false;
+    }
+    is_sound(Table {
+        dist: &i.dist[f..e],
+        size: &i.size[f..e],
+        value: &i.value[f..e],
+    })
 }
 
 // Does the record before bring the same run? Then it is tested already.
@@ -37,18 +45,11 @@ fn is_tested(before: Option<Record>, r: Record) -> bool
 
 // Test 6: an insert or a replace has a run.
 #[tactic(auto, using(crate::proofs::Runs::run_again), unfolding(plan::specs::Records::runs))]
-pub fn test_run(
-    idist: &[u32],
-    isize: &[u32],
-    ivalue: &[u32],
-    before: Option<Record>,
-    r: Record,
-) -> Result<(), Fault>
-    requires { let i = table idist.now isize.now ivalue.now in Even i × RunTested i before }
-    ensures { let i = table idist.now isize.now ivalue.now in
-        result ≡ trial (runs i r) BadRun }
+pub fn test_run(i: Table, before: Option<Record>, r: Record) -> Result<(), Fault>
+    requires { Even (read i) × RunTested (read i) before }
+    ensures { result ≡ trial (runs (read i.entry) r) BadRun }
 {
-    if !has_run(r) || is_tested(before, r) || run_at(idist, isize, ivalue, wide(r.from)) {
+    if !has_run(r) || is_tested(before, r) || run_at(i, wide(r.from)) {
         Ok(())
     } else {
         Err(Fault::Run)

@@ -67,7 +67,7 @@ pub fn meet(s: Stand, r: Record, end: OldPre, run: u32) -> Meeting
     let next = Stand {
         row: end,
         out: NewPre(s.out.0 + (p - s.row.0) + run),
-        first: first,
+        first,
         end: last,
     };
     Meeting::Here(OldPre(p), run, next)

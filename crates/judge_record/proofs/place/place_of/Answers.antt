@@ -1,7 +1,12 @@
 -- `judge_record::place::place_of` meets its contract.
 use mathlib.Core.Path.{refl}
-use Rattle.judge_record.proofs.Places.{read_place}
+use Rattle.judge_record.proofs.Places.{row_ends, read_place}
 use Rattle.judge_record.proofs.place.place_of.Goals as goal
+
+pub end_of-requires : goal.end_of-requires
+end_of-requires c =
+    let a = c.args in
+    λ l. row_ends a.dist.now a.size.now a.r c.requires l
 
 pub returns : goal.returns
 returns c =

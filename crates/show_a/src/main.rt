@@ -3,6 +3,7 @@
 
 use out::worked;
 use plan::Record;
+use plan::lent::{Changes, Table};
 use std::io;
 
 // As many rows of the new table as the call counted, each on a line of its own.
@@ -20,35 +21,28 @@ fn rows(
 }
 
 fn main(rt: HostRuntime) -> io::Result<()> {
-    let dist = worked::DIST;
-    let size = worked::SIZE;
-    let value = worked::VALUE;
-    let kind: [u32; 3] = [Record::INSERT, Record::DELETE, Record::INSERT];
-    let location: [u32; 3] = [2, 4, 6];
-    let parent: [u32; 3] = [1, 0, 0];
-    let from: [u32; 3] = [2, 0, 0];
-    let values: [u32; 3] = [0, 0, 0];
-    let run_dist = worked::RUN_DIST;
-    let run_size = worked::RUN_SIZE;
-    let run_value = worked::RUN_VALUE;
-    let mut new_dist: [u32; 8] = [0; 8];
-    let mut new_size: [u32; 8] = [0; 8];
-    let mut new_value: [u32; 8] = [0; 8];
-    let answer = refresh::bulk(
-        &dist,
-        &size,
-        &value,
-        &kind,
-        &location,
-        &parent,
-        &from,
-        &values,
-        &run_dist,
-        &run_size,
-        &run_value,
-        &mut new_dist,
-        &mut new_size,
-        &mut new_value,
-    );
-    rows(&rt, &new_dist, &new_size, &new_value, answer.count)
+    let table = Table {
+        dist: &worked::DIST,
+        size: &worked::SIZE,
+        value: &worked::VALUE,
+    };
+    let changes = Changes {
+        kind: &[Record::INSERT, Record::DELETE, Record::INSERT],
+        location: &[2, 4, 6],
+        parent: &[1, 0, 0],
+        from: &[2, 0, 0],
+        value: &[0, 0, 0],
+    };
+    let insertions = Table {
+        dist: &worked::RUN_DIST,
+        size: &worked::RUN_SIZE,
+        value: &worked::RUN_VALUE,
+    };
+    let mut dist = [0; 8];
+    let mut size = [0; 8];
+    let mut value = [0; 8];
+    match refresh::bulk(table, changes, insertions, &mut dist, &mut size, &mut value) {
+        Ok(count) => rows(&rt, &dist, &size, &value, count),
+        Err(refusal) => println!(rt; "{refusal}"),
+    }
 }

@@ -3,36 +3,18 @@
 #![tactic(auto)]
 
 use out::{column, flat, heading, worked};
+use plan::Record;
 use plan::lent::{Changes, Table};
-use plan::{Answer, Record};
+use plan::refusal::Refusal;
 use refresh::{bulk, single};
 use std::io;
 
 // The answer, to the end of the line.
-fn told(rt: &impl Print, a: Answer) -> io::Result<()> {
-    if a.number == 0 {
-        println!(rt; "accepted, count {}", a.count)
-    } else {
-        println!(rt;
-            "refused {}, place {}, count {}",
-            a.number, a.place, a.count
-        )
+fn told(rt: &impl Print, answer: Result<u64, Refusal>) -> io::Result<()> {
+    match answer {
+        Ok(count) => println!(rt; "accepted, count {count}"),
+        Err(refusal) => println!(rt; "{refusal}"),
     }
-}
-
-// The bulk call.
-fn applied(
-    t: Table,
-    l: Changes,
-    i: Table,
-    ndist: &mut [u32],
-    nsize: &mut [u32],
-    nvalue: &mut [u32],
-) -> Answer {
-    bulk(
-        t.dist, t.size, t.value, l.kind, l.location, l.parent, l.from, l.value, i.dist, i.size,
-        i.value, ndist, nsize, nvalue,
-    )
 }
 
 // A list on T, with new columns of 9 rows that hold 99.
@@ -43,7 +25,7 @@ fn on_t(rt: &impl Print, name: &str, l: Changes) -> io::Result<()> {
     print!(rt; "{name}: ")?;
     told(
         rt,
-        applied(
+        bulk(
             worked::TABLE,
             l,
             worked::INSERTIONS,
@@ -69,7 +51,7 @@ fn short(rt: &impl Print) -> io::Result<()> {
     print!(rt; "L: ")?;
     told(
         rt,
-        applied(
+        bulk(
             worked::TABLE,
             worked::A,
             worked::INSERTIONS,
@@ -116,13 +98,11 @@ fn on_flat(
         value: &[1],
     };
     print!(rt; "{name}: ")?;
-    told(rt, applied(t, l, i, &mut ndist, &mut nsize, &mut nvalue))
+    told(rt, bulk(t, l, i, &mut ndist, &mut nsize, &mut nvalue))
 }
 
 // The single call: delete 4 on T.
 fn alone(rt: &impl Print) -> io::Result<()> {
-    let t = worked::TABLE;
-    let i = worked::INSERTIONS;
     let delete = Record {
         kind: Record::DELETE,
         location: 4,
@@ -137,13 +117,9 @@ fn alone(rt: &impl Print) -> io::Result<()> {
     told(
         rt,
         single(
-            t.dist,
-            t.size,
-            t.value,
+            worked::TABLE,
             delete,
-            i.dist,
-            i.size,
-            i.value,
+            worked::INSERTIONS,
             &mut ndist,
             &mut nsize,
             &mut nvalue,

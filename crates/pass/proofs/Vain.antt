@@ -3,7 +3,7 @@
 -- Assumes nothing.
 use Prim.Native.Nat.{ℕ, ◌+◌, ◌-◌}
 use native.Mathlib.Omega.{arith}
-use mathlib.Core.Path.{◌≡◌, refl, sym, ◌∙◌, subst}
+use mathlib.Core.Path.{◌≡◌, refl, sym, subst}
 use mathlib.Core.Bool.{Bool, true, false, cond, ◌&&◌}
 use mathlib.Core.List.{List, [], ◌∷◌}
 use lib.Dec.{leb, ltb, ltb→lt}
@@ -16,7 +16,7 @@ use Rattle.plan.specs.Tree.{Forest}
 use Rattle.plan.specs.Table.{Table}
 use Rattle.plan.specs.Change.{delete, rename, replace, Change, insert, act, lost, skip}
 use Rattle.plan.specs.Records.{is_delete, is_insert, is_rename}
-use Rattle.plan.specs.Way.{old_pre, vain, taken_from, removes_rows, stand, meeting}
+use Rattle.plan.specs.Way.{vain, taken_from, removes_rows, stand, meeting}
 use Rattle.plan.proofs.Kit.{T_and, false_of, cond_elim}
 use Rattle.pass.specs.Values.{valued}
 
@@ -64,15 +64,15 @@ module _ (s : Stand) (r : Record) (e n : ℕ) where
   abbrev pub Told : Meeting → Type 0
   Told Vain = vain s.first.0 s.end.0 r ≡ true
   Told (Renamed s') =
-      (vain s.first.0 s.end.0 r ≡ false) × (is_rename r ≡ true) × (s' ≡ stand s.row.0 s.out.0 0 0)
+      (vain s.first.0 s.end.0 r ≡ false) × (r.kind ≡ 3) × (s' ≡ stand s.row.0 s.out.0 0 0)
   Told (Here p m s') =
-      (vain s.first.0 s.end.0 r ≡ false) × (is_rename r ≡ false) × (p ≡ old_pre r.location) × (m ≡ n)
+      (vain s.first.0 s.end.0 r ≡ false) × (is_rename r ≡ false) × (p.0 ≡ r.location) × (m ≡ n)
       × (s' ≡ behind_it)
 
   told : Told (meeting s r e n)
   told =
       cond_elim Told (vain s.first.0 s.end.0 r) _ _ (λ v. v)
-      (λ v. cond_elim Told (is_rename r) _ _ (λ m. (v, m, refl)) (λ m. (v, m, refl, refl, refl)))
+      (λ v. cond_elim Told (is_rename r) _ _ (λ m. (v, eqb-true _ 3 m, refl)) (λ m. (v, m, refl, refl, refl)))
 
-  pub tells : {m k : Meeting} → m ≡ meeting s r e n → m ≡ k → Told k
-  tells w y = subst Told (sym w ∙ y) told
+  pub tells : {m : Meeting} → m ≡ meeting s r e n → Told m
+  tells w = subst Told (sym w) told

@@ -4,7 +4,7 @@
 #![tactic(auto)]
 
 ghost use Rattle.std.specs.Prelude.{◌≡◌, ◌<◌, ◌≤◌, length, get_or};
-ghost use Rattle.plan.specs.Table.{table};
+ghost use Rattle.plan.specs.Table.{table, read};
 ghost use Rattle.plan.specs.Way.{stand};
 ghost use Rattle.pass_moves.specs.Rows.{Room};
 ghost use Rattle.pass_moves.specs.Written.{row, cursor, rowed};
@@ -17,6 +17,7 @@ use judge_record::run::has_run;
 use judge_record::way::{meet, row_behind, run_rows};
 use pass_moves::{Cursor, close, end, paste, revalue, stretch};
 use pass_way::{elsewhere, upto};
+use plan::lent::Table;
 use plan::{Meeting, NewPre, OldPre, Record, Stand};
 
 // The record's run, of so many rows, becomes the next new rows.
@@ -24,27 +25,21 @@ fn bring(
     c: Cursor,
     r: Record,
     run: u32,
-    idist: &[u32],
-    isize: &[u32],
-    ivalue: &[u32],
+    i: Table,
     ndist: &mut [u32],
     nsize: &mut [u32],
     nvalue: &mut [u32],
 )
-    requires { let i = table idist.now isize.now ivalue.now in
-        let u = table ndist.old nsize.old nvalue.old in
-        Brings i u c r run }
-    ensures { let i = table idist.now isize.now ivalue.now in
-        let u = table ndist.old nsize.old nvalue.old in
+    requires { let u = table ndist.old nsize.old nvalue.old in
+        Brings (read i) u c r run }
+    ensures { let u = table ndist.old nsize.old nvalue.old in
         let v = table ndist.new nsize.new nvalue.new in
-        v ≡ with_run i u c r run }
+        v ≡ with_run (read i.entry) u c r run }
 {
-    if !has_run(r) {
-        return;
+    if has_run(r) {
+        let from = r.from as usize;
+        paste(c, i, from, run as usize, ndist, nsize, nvalue);
     }
-    let from = r.from as usize;
-    let count = run as usize;
-    paste(c, idist, isize, ivalue, from, count, ndist, nsize, nvalue);
 }
 
 // The row under which the record's change is made: an insert's own parent.
@@ -53,11 +48,10 @@ fn parent_of(dist: &[u32], r: Record) -> OldPre
         (r.kind ≡ 2 → ⊥) → (p < length dist.now) × (get_or dist.now p 0 ≤ p) }
     ensures { Under dist.now r result.0 }
 {
-    if r.kind != Record::INSERT {
-        let p = r.location;
-        return OldPre(p - dist[p as usize]);
+    if r.kind == Record::INSERT {
+        return OldPre(r.parent);
     }
-    OldPre(r.parent)
+    OldPre(r.location - dist[r.location as usize])
 }
 
 // The next record is taken. The root is open already: a record there gives it another value. So does a rename, to a row
@@ -65,60 +59,39 @@ fn parent_of(dist: &[u32], r: Record) -> OldPre
 pub fn one(
     c: Cursor,
     r: Record,
-    dist: &[u32],
-    size: &[u32],
-    value: &[u32],
-    idist: &[u32],
-    isize: &[u32],
-    ivalue: &[u32],
+    t: Table,
+    i: Table,
     ndist: &mut [u32],
     nsize: &mut [u32],
     nvalue: &mut [u32],
 ) -> Cursor
-    requires { let t = table dist.now size.now value.now in
-        let i = table idist.now isize.now ivalue.now in
-        let u = table ndist.old nsize.old nvalue.old in
-        Next t i u c r }
-    ensures { let t = table dist.now size.now value.now in
-        let i = table idist.now isize.now ivalue.now in
-        let u = table ndist.old nsize.old nvalue.old in
+    requires { let u = table ndist.old nsize.old nvalue.old in
+        Next (read t) (read i) u c r }
+    ensures { let u = table ndist.old nsize.old nvalue.old in
         let v = table ndist.new nsize.new nvalue.new in
-        Taken t i u c r v result }
+        Taken (read t.entry) (read i.entry) u c r v result }
 {
     if r.location == 0 {
         nvalue[0] = r.value;
         return c;
     }
-    let s = c.stand;
-    let behind = row_behind(size, r);
-    let run = run_rows(isize, r);
-    match meet(s, r, behind, run) {
+    let behind = row_behind(t.size, r);
+    let run = run_rows(i.size, r);
+    match meet(c.stand, r, behind, run) {
         Meeting::Vain => c,
         Meeting::Renamed(next) => {
-            let parent = c.parent;
-            let under = c.under;
-            let p = OldPre(r.location);
-            revalue(c, p, r.value, value, nvalue);
+            revalue(c, OldPre(r.location), r.value, t.value, nvalue);
             Cursor {
                 stand: next,
-                parent: parent,
-                under: under,
                 valued: OldPre(r.location + 1),
+                ..c
             }
         }
         Meeting::Here(p, rows, next) => {
-            let q = parent_of(dist, r);
-            let k = upto(c, p, q, dist, size, value, ndist, nsize, nvalue);
-            let parent = k.parent;
-            let under = k.under;
-            let valued = k.valued;
-            bring(k, r, rows, idist, isize, ivalue, ndist, nsize, nvalue);
-            Cursor {
-                stand: next,
-                parent: parent,
-                under: under,
-                valued: valued,
-            }
+            let q = parent_of(t.dist, r);
+            let k = upto(c, p, q, t, ndist, nsize, nvalue);
+            bring(k, r, rows, i, ndist, nsize, nvalue);
+            Cursor { stand: next, ..k }
         }
     }
 }
@@ -126,53 +99,39 @@ pub fn one(
 // Behind the last record, one step: the open row is closed, or all rows left under it are copied.
 fn tail_step(
     c: Cursor,
-    dist: &[u32],
-    size: &[u32],
-    value: &[u32],
+    t: Table,
     ndist: &mut [u32],
     nsize: &mut [u32],
     nvalue: &mut [u32],
 ) -> Cursor
-    requires { let t = table dist.now size.now value.now in
-        let u = table ndist.old nsize.old nvalue.old in
-        Last t u c × Away (length size.now) 0 (row c) c.parent.0 }
-    ensures { let t = table dist.now size.now value.now in
+    requires { let u = table ndist.old nsize.old nvalue.old in
+        Last (read t) u c × Away (length t.size.now) 0 (row c) c.parent.0 }
+    ensures { let t = read t.entry in
         let u = table ndist.old nsize.old nvalue.old in
         let v = table ndist.new nsize.new nvalue.new in
         Copied t u c v result × (ahead t result < ahead t c) }
 {
-    let s = c.stand;
-    let open = c.parent;
-    let e = end(size, open);
-    if s.row.0 == e.0 {
-        return close(c, dist, ndist, nsize);
+    let e = end(t.size, c.parent);
+    if c.stand.row.0 == e.0 {
+        return close(c, t.dist, ndist, nsize);
     }
-    stretch(c, e, dist, size, value, ndist, nsize, nvalue)
+    stretch(c, e, t, ndist, nsize, nvalue)
 }
 
 // Behind the last record: all rows that are left are copied, and the root alone stays open.
-fn tail(
-    start: Cursor,
-    dist: &[u32],
-    size: &[u32],
-    value: &[u32],
-    ndist: &mut [u32],
-    nsize: &mut [u32],
-    nvalue: &mut [u32],
-) -> Cursor
-    requires { let t = table dist.now size.now value.now in
-        let u = table ndist.old nsize.old nvalue.old in
-        Last t u start }
-    ensures { let t = table dist.now size.now value.now in
+fn tail(start: Cursor, t: Table, ndist: &mut [u32], nsize: &mut [u32], nvalue: &mut [u32]) -> Cursor
+    requires { let u = table ndist.old nsize.old nvalue.old in
+        Last (read t) u start }
+    ensures { let t = read t.entry in
         let u = table ndist.old nsize.old nvalue.old in
         let v = table ndist.new nsize.new nvalue.new in
-        Copied t u start v result × (row result ≡ length size.now) × (result.parent.0 ≡ 0) }
+        Copied t u start v result × (row result ≡ length t.size) × (result.parent.0 ≡ 0) }
 {
-    let n = OldPre(size.len() as u32);
+    let n = OldPre(t.size.len() as u32);
     let root = OldPre(0);
     let mut c = start;
     while elsewhere(c, n, root) {
-        c = tail_step(c, dist, size, value, ndist, nsize, nvalue);
+        c = tail_step(c, t, ndist, nsize, nvalue);
     }
     c
 }
@@ -180,25 +139,20 @@ fn tail(
 // The rows behind the last record, and the root's size. The answer is the number of new rows.
 pub fn finish(
     c: Cursor,
-    dist: &[u32],
-    size: &[u32],
-    value: &[u32],
+    t: Table,
     ndist: &mut [u32],
     nsize: &mut [u32],
     nvalue: &mut [u32],
 ) -> usize
-    requires { let t = table dist.now size.now value.now in
-        let u = table ndist.old nsize.old nvalue.old in
-        Last t u c }
-    ensures { let t = table dist.now size.now value.now in
-        let u = table ndist.old nsize.old nvalue.old in
+    requires { let u = table ndist.old nsize.old nvalue.old in
+        Last (read t) u c }
+    ensures { let u = table ndist.old nsize.old nvalue.old in
         let v = table ndist.new nsize.new nvalue.new in
-        Finished t u c v result }
+        Finished (read t.entry) u c v result }
 {
-    let k = tail(c, dist, size, value, ndist, nsize, nvalue);
-    let last = k.stand;
-    nsize[0] = last.out.0;
-    last.out.0 as usize
+    let rows = tail(c, t, ndist, nsize, nvalue).stand.out.0;
+    nsize[0] = rows;
+    rows as usize
 }
 
 // The root's row, with the value a. It is open.
@@ -216,8 +170,7 @@ pub fn begin(a: u32, ndist: &mut [u32], nsize: &mut [u32], nvalue: &mut [u32]) -
         stand: Stand {
             row: OldPre(1),
             out: NewPre(1),
-            first: OldPre(0),
-            end: OldPre(0),
+            ..Stand::start()
         },
         parent: OldPre(0),
         under: NewPre(0),

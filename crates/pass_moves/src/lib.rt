@@ -3,11 +3,11 @@
 #![tactic(auto)]
 
 ghost use Rattle.std.specs.Prelude.{◌≡◌, ◌+◌, ◌-◌, ◌<◌, ◌≤◌, length, get_or, set, drop};
-ghost use Rattle.plan.specs.Table.{table, most_rows};
-ghost use Rattle.plan.specs.Way.{old_pre};
+ghost use Rattle.plan.specs.Table.{table, read, most_rows};
 ghost use Rattle.pass_moves.specs.Written.{row, out, on_to, cursor, copied, laid, hung, rehung};
 ghost use Rattle.pass_moves.specs.Written.{Ended, Pastes, Unread, Stretches, Wrote, Revalues, Revalued, Closes};
 
+use plan::lent::Table;
 use plan::{NewPre, OldPre, Stand};
 
 // Where the pass stands.
@@ -25,7 +25,7 @@ pub struct Cursor {
 // The row behind a row and its subtree.
 pub fn end(size: &[u32], row: OldPre) -> OldPre
     requires { Ended size.now row.0 }
-    ensures { result ≡ old_pre (row.0 + get_or size.now row.0 0) }
+    ensures { result.0 ≡ row.0 + get_or size.now row.0 0 }
 {
     OldPre(row.0 + size[row.0 as usize])
 }
@@ -35,40 +35,30 @@ fn copy(column: &[u32], from: usize, count: usize, new: &mut [u32], at: usize)
     requires { (from + count ≤ length column.now) × (at + count ≤ length new.old) }
     ensures { new.new ≡ copied new.old at column.now from count }
 {
-    let mut j = 0;
-    while j < count {
-        new[at + j] = column[from + j];
-        j += 1;
-    }
+    new[at..at + count].copy_from_slice(&column[from..from + count]);
 }
 
 // The rows of a run become the next new rows, under the open row.
 pub fn paste(
     c: Cursor,
-    dist: &[u32],
-    size: &[u32],
-    value: &[u32],
+    t: Table,
     from: usize,
     count: usize,
     ndist: &mut [u32],
     nsize: &mut [u32],
     nvalue: &mut [u32],
 )
-    requires { let t = table dist.now size.now value.now in
-        let u = table ndist.old nsize.old nvalue.old in
-        Pastes t from count u c }
-    ensures { let t = table dist.now size.now value.now in
-        let u = table ndist.old nsize.old nvalue.old in
+    requires { let u = table ndist.old nsize.old nvalue.old in
+        Pastes (read t) from count u c }
+    ensures { let u = table ndist.old nsize.old nvalue.old in
         let v = table ndist.new nsize.new nvalue.new in
-        v ≡ laid u (out c) t from count (out c - c.under.0) }
+        v ≡ laid u (out c) (read t.entry) from count (out c - c.under.0) }
 {
-    let s = c.stand;
-    let d = s.out.0 - c.under.0;
-    let at = s.out.0 as usize;
-    copy(dist, from, count, ndist, at);
-    ndist[at] = d;
-    copy(size, from, count, nsize, at);
-    copy(value, from, count, nvalue, at);
+    let at = c.stand.out.0 as usize;
+    copy(t.dist, from, count, ndist, at);
+    ndist[at] = c.stand.out.0 - c.under.0;
+    copy(t.size, from, count, nsize, at);
+    copy(t.value, from, count, nvalue, at);
 }
 
 // The distance of the row at place j of a stretch: it leads to the open row, d rows before the stretch, or stays.
@@ -76,10 +66,7 @@ fn hang(d: u32, j: u32, x: u32) -> u32
     requires { d + j ≤ most_rows }
     ensures { result ≡ hung d j x }
 {
-    if x > j {
-        return d + j;
-    }
-    x
+    if x > j { d + j } else { x }
 }
 
 // Copies a part of the distances, of rows that all lie under the open row, d rows before the part.
@@ -89,10 +76,8 @@ fn rehang(dist: &[u32], from: usize, count: usize, d: u32, new: &mut [u32], at: 
     ensures { let x = rehung d 0 (drop from dist.now) in
         new.new ≡ copied new.old at x 0 count }
 {
-    let mut j = 0;
-    while j < count {
+    for j in 0..count {
         new[at + j] = hang(d, j as u32, dist[from + j]);
-        j += 1;
     }
 }
 
@@ -101,53 +86,37 @@ fn unread(row: OldPre, valued: OldPre, stop: OldPre) -> OldPre
     requires { row.0 ≤ stop.0 }
     ensures { Unread row.0 valued.0 stop.0 result.0 }
 {
-    if valued.0 <= row.0 {
-        return row;
-    }
-    if stop.0 <= valued.0 {
-        return stop;
-    }
-    valued
+    OldPre(valued.0.clamp(row.0, stop.0))
 }
 
 // The rows up to row `stop`, which all lie under the open row, become the next new rows.
 pub fn stretch(
     c: Cursor,
     stop: OldPre,
-    dist: &[u32],
-    size: &[u32],
-    value: &[u32],
+    t: Table,
     ndist: &mut [u32],
     nsize: &mut [u32],
     nvalue: &mut [u32],
 ) -> Cursor
-    requires { let t = table dist.now size.now value.now in
-        let u = table ndist.old nsize.old nvalue.old in
-        Stretches t stop.0 u c }
+    requires { let u = table ndist.old nsize.old nvalue.old in
+        Stretches (read t) stop.0 u c }
     ensures result_value { let s = on_to c.stand stop.0 (out c + (stop.0 - row c)) in
         result ≡ cursor s c.parent.0 c.under.0 c.valued.0 }
-    ensures fact { let t = table dist.now size.now value.now in
-        let u = table ndist.old nsize.old nvalue.old in
+    ensures fact { let u = table ndist.old nsize.old nvalue.old in
         let v = table ndist.new nsize.new nvalue.new in
-        Wrote t u c stop.0 v }
+        Wrote (read t.entry) u c stop.0 v }
 {
-    let s = c.stand;
-    let parent = c.parent;
-    let under = c.under;
-    let valued = c.valued;
-    let row = s.row;
-    let out = s.out;
-    let gone = s.first;
-    let end = s.end;
+    let row = c.stand.row;
+    let out = c.stand.out;
     let at = out.0 as usize;
     let first = row.0 as usize;
     let rows = stop.0 as usize - first;
-    rehang(dist, first, rows, out.0 - under.0, ndist, at);
-    copy(size, first, rows, nsize, at);
-    let left = unread(row, valued, stop);
+    rehang(t.dist, first, rows, out.0 - c.under.0, ndist, at);
+    copy(t.size, first, rows, nsize, at);
+    let left = unread(row, c.valued, stop);
     let from = left.0 as usize;
     copy(
-        value,
+        t.value,
         from,
         stop.0 as usize - from,
         nvalue,
@@ -157,12 +126,9 @@ pub fn stretch(
         stand: Stand {
             row: stop,
             out: NewPre(out.0 + (stop.0 - row.0)),
-            first: gone,
-            end: end,
+            ..c.stand
         },
-        parent: parent,
-        under: under,
-        valued: valued,
+        ..c
     }
 }
 
@@ -171,14 +137,11 @@ pub fn revalue(c: Cursor, p: OldPre, a: u32, value: &[u32], nvalue: &mut [u32])
     requires { Revalues value.now nvalue.old c p.0 }
     ensures { Revalued value.now nvalue.old c p.0 a nvalue.new }
 {
-    let s = c.stand;
-    let row = s.row;
-    let out = s.out;
-    let valued = c.valued;
-    let at = out.0 as usize;
+    let row = c.stand.row;
+    let at = c.stand.out.0 as usize;
     let first = row.0 as usize;
     let place = p.0 as usize;
-    let left = unread(row, valued, p);
+    let left = unread(row, c.valued, p);
     let from = left.0 as usize;
     copy(value, from, place - from, nvalue, at + (from - first));
     nvalue[at + (place - first)] = a;
@@ -192,15 +155,12 @@ pub fn close(c: Cursor, dist: &[u32], ndist: &[u32], nsize: &mut [u32]) -> Curso
         result ≡ cursor c.stand q j c.valued.0 }
     ensures nsize_after { nsize.new ≡ set nsize.old c.under.0 (out c - c.under.0) }
 {
-    let s = c.stand;
-    let valued = c.valued;
     let parent = c.parent.0;
     let under = c.under.0;
-    nsize[under as usize] = s.out.0 - under;
+    nsize[under as usize] = c.stand.out.0 - under;
     Cursor {
-        stand: s,
         parent: OldPre(parent - dist[parent as usize]),
         under: NewPre(under - ndist[under as usize]),
-        valued: valued,
+        ..c
     }
 }

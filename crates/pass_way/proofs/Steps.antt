@@ -380,6 +380,9 @@ ahead-on {t} {u} {u'} {l} {c} {k} {e} S A eu ek =
           ∙ (ap (λ (x : ℕ). get_or u.value x 0) (omega arith) ∙ A.there i (omega arith) m);
     })
 
+elsewhere : {a b e : ℕ} → e ≡ b → (a ≡ e → ⊥) → a ≡ b → ⊥
+elsewhere w ne z = ne (z ∙ sym w)
+
 module _ {t u : Table} {c : Cursor} {p q : ℕ} (v : Away p q (row c) c.parent.0) where
   module _ {u' : Table} {c' : Cursor} (e : row c ≡ c.parent.0 + size_at t c.parent.0)
       (eu : u' ≡ sized u c.under.0 (out c - c.under.0))
@@ -405,11 +408,10 @@ module _ {t u : Table} {c : Cursor} {p q : ℕ} (v : Away p q (row c) c.parent.0
     went_close W =
         (record { went = λ l A R. (close_carried l A R).0 }, (close_carried W.values W.ahead W.ready).1)
 
-  module _ (ne : row c ≡ c.parent.0 + size_at t c.parent.0 → ⊥) {e s : ℕ}
-      (w : e ≡ c.parent.0 + size_at t c.parent.0) (n : Nearer e p s) where
+  module _ {e s : ℕ} (w : e ≡ c.parent.0 + size_at t c.parent.0) (ne : row c ≡ e → ⊥) (n : Nearer e p s) where
     pub can_stretch_on : Readied t u c p q → Stretches t s u c
     can_stretch_on W =
-        let S = can_copy W.ready v ne w n in
+        let S = can_copy W.ready v (elsewhere w ne) w n in
         record {
           ahead = S.ahead;
           there =
@@ -431,8 +433,8 @@ module _ {t u : Table} {c : Cursor} {p q : ℕ} (v : Away p q (row c) c.parent.0
       all_carried : e < p → (l : List ℕ) → Ahead l t.value u.value c → Ready (valuing t l) u c p q
           → Carried t l u c p q u' k × (ahead t k < ahead t c)
       all_carried h l A R =
-          let S = can_copy R v ne w n in
-          let m = copied_all R v ne w n (wr.wrote l A) ek h in
+          let S = can_copy R v (elsewhere w ne) w n in
+          let m = copied_all R v (elsewhere w ne) w n (wr.wrote l A) ek h in
           let o = ap (λ (x : Cursor). out x) ek in
           let r = ap (λ (x : Cursor). row x) ek in (
             record {
@@ -450,14 +452,14 @@ module _ {t u : Table} {c : Cursor} {p q : ℕ} (v : Away p q (row c) c.parent.0
           (record { went = λ l A R. (all_carried h l A R).0 }, (all_carried h W.values W.ahead W.ready).1)
 
       pub some-rows-on : p ≤ e → Readied t u c p q → (0 < p) × (0 < out k)
-      some-rows-on h W = some-rows W.ready v ne w n (wr.wrote W.values W.ahead) ek h
+      some-rows-on h W = some-rows W.ready v (elsewhere w ne) w n (wr.wrote W.values W.ahead) ek h
 
       part_carried : p ≤ e → {k' : Cursor} → k' ≡ cursor k.stand (p - 1) (out k - 1) k.valued.0
           → (l : List ℕ) → Ahead l t.value u.value c → Ready (valuing t l) u c p q
           → Carried t l u c p q u' k' × (ahead t k' < ahead t c)
       part_carried h {k'} ec l A R =
-          let S = can_copy R v ne w n in
-          let m = copied-part R v ne w n (wr.wrote l A) ek h ec in
+          let S = can_copy R v (elsewhere w ne) w n in
+          let m = copied-part R v (elsewhere w ne) w n (wr.wrote l A) ek h ec in
           let z : s ≡ p = n.second h in
           let o = ap (λ (x : Cursor). out x) ek in
           let o' = ap (λ (x : Cursor). out x) ec in

@@ -1,105 +1,115 @@
--- The bulk call, case by case: which test decides, and what is written.
+-- The bulk call, case by case: which test decides, how the pass begins, and what is written.
 -- Assumes nothing.
 use Prim.Native.Nat.{ℕ, ◌≤◌, ◌<◌}
 use native.Mathlib.Omega.{arith}
 use mathlib.Core.Path.{◌≡◌, refl, sym, ◌∙◌}
 use mathlib.Core.Bool.{Bool, true, false, ◌&&◌}
-use mathlib.Core.List.{List, [], ◌∷◌}
+use mathlib.Core.List.{List}
 use lib.Dec.{leb}
-use lib.ListN.{length}
-use borrow.Author.Tests.{le-leb, lt-leb}
+use lib.ListN.{length, get_or, drop}
+use borrow.Author.Tests.{leb-true}
+use Rattle.std.specs.Prelude.{Err}
+use Rattle.std.proofs.lemmas.List.{drop_all}
 use Rattle.plan.specs.declared.Record.{Record}
-use Rattle.plan.specs.declared.Answer.{Answer}
 use Rattle.plan.specs.declared.Verdict.{Verdict}
 use Rattle.plan.specs.declared.Verdict.TheVariants.{Passed, Failed}
-use Rattle.plan.specs.Answer.{accepted, refused}
+use Rattle.plan.specs.declared.Judgement.TheVariants.{Needs}
+use Rattle.plan.specs.declared.refusal.Refusal.{Refusal}
+use Rattle.plan.specs.declared.refusal.Refusal.TheVariants.{Uneven}
+use Rattle.plan.specs.Answer.{accepted}
 use Rattle.plan.specs.Tree.{count}
 use Rattle.plan.specs.Table.{Table, even}
-use Rattle.plan.specs.Call.{then, test, result, judged, bulk}
-use Rattle.plan.specs.Lent.{lent, level, listed, list}
-use Rattle.plan.proofs.Kit.{T_of, and_false}
-use Rattle.plan.proofs.Judged.{Accepted, accepted-judged}
-use Rattle.plan.specs.declared.Judgement.{Judgement}
-use Rattle.plan.specs.declared.Judgement.TheVariants.{Needs, Refused}
-use Rattle.plan.specs.Call.{published_of}
-use Rattle.judge.proofs.Told.{needs_told, refused-told}
-use Rattle.pass.specs.Asked.{Given, Answered}
-use Rattle.plan.specs.Call.{Done}
+use Rattle.plan.specs.Way.{stand}
+use Rattle.plan.specs.Told.{failed, judgement_told, refused_answer}
+use Rattle.plan.specs.Call.{then, test, result, judged, bulk, published_of, Done}
+use Rattle.plan.specs.Lent.{Lent, level, list}
+use Rattle.plan.proofs.Kit.{T_and, and_false}
+use Rattle.plan.proofs.Verdicts.{test_true, test_false, then-passed}
+use Rattle.plan.proofs.Judged.{accepted-judged}
+use Rattle.judge.proofs.Told.{needs_told, failed-fails, failed-then, failed-judged}
+use Rattle.pass_moves.specs.Rows.{Room}
+use Rattle.pass_moves.specs.declared.Cursor.{Cursor}
+use Rattle.pass_moves.specs.Written.{cursor, rowed}
+use Rattle.pass_moves.proofs.Rows.{tall_tree}
+use Rattle.pass.specs.Asked.{Given}
+use Rattle.pass.specs.Underway.{Underway, Finished}
+use Rattle.pass.proofs.Given.{tree_of, root-room}
+use Rattle.pass.proofs.Begun.{underway-begun}
+
+-- nothing is written, and a refusal is handed on
+pub done_refused : (evens : Bool) (t i : Table) (l : List Record) (u : Table) (e : Refusal)
+    → failed e ≡ bulk evens t i l u → Done evens t i l u (refused_answer e) u
+done_refused evens t i l u e h =
+    let f = (failed-fails e).is in
+    record { answered = rw (← h, f); columns = rw (← h, f) }
+
+-- the list's own columns differ in length
+pub done_odd : (t i : Table) (c : Lent) (u : Table) → level c ≡ false
+    → Done (level c) t i (list c) u (refused_answer Uneven) u
+unfolding bulk judged
+done_odd t i c u e = done_refused (level c) t i (list c) u Uneven (rw e)
 
 and_last : (x y z : Bool) → z ≡ true → (x && (y && z)) ≡ (x && y)
 and_last true true z e = e
 and_last true false z e = refl
 and_last false y z e = refl
 
--- test 1 of the new columns
-even-new : (e x y z : Bool) → z ≡ true → (e && (x && (y && z))) ≡ (e && (x && y))
-even-new true x y z w = and_last x y z w
-even-new false x y z w = refl
-
-uneven-new : (e x y z : Bool) → z ≡ false → (e && (x && (y && z))) ≡ false
-uneven-new e x y z w = and_false e (and_false x (and_false y w))
-
-module _ (evens : Bool) (t i : Table) (l : List Record) (u : Table) where
+module _ (t i : Table) (l : List Record) (u : Table) where
   abbrev f : ℕ
   f = count (result t i l)
 
   abbrev verdict : Verdict
-  verdict = bulk evens t i l u
+  verdict = bulk true t i l u
 
-  -- nothing is written, and a refusal is handed on
-  refuses : (a p c : ℕ) → verdict ≡ Failed a p c → Done evens t i l u (refused a p c) u
-  refuses a p c e = record { answered = rw e; columns = rw e }
-
-  pub done-uneven : (a : Answer) → even u ≡ false → a ≡ refused 1 0 0 → Done evens t i l u a u
+  -- ---- test 1 of the new columns, tests 1 to 9, and test 10
+  pub not_even : Failed 1 0 0 ≡ test (even u) 1 0 0 → failed Uneven ≡ verdict
   unfolding bulk judged
-  done-uneven a e g = rw g (refuses 1 0 0 (rw (uneven-new evens (even t) (even i) (even u) e)))
+  not_even h = rw (and_false (even t) (and_false (even i) (test_false (even u) 1 0 0 1 0 0 (sym h))))
 
-  module _ (e : even u ≡ true) (j : Judgement) (g : j ≡ published_of (evens && (even t && even i)) t i l) where
-    -- the verdict is that of tests 1 to 9, and then of test 10
-    then_ten : verdict ≡ then (judged (evens && (even t && even i)) t i l) (test (leb f (length u.size)) 10 0 f)
+  module _ (e : Passed ≡ test (even u) 1 0 0) where
+    then_ten : verdict ≡ then (judged (even t && even i) t i l) (test (leb f (length u.size)) 10 0 f)
     unfolding bulk
-    then_ten = rw (even-new evens (even t) (even i) (even u) e)
+    then_ten = rw (and_last (even t) (even i) (even u) (test_true (even u) 1 0 0 (sym e)))
 
-    pub done_refused : (a p c : ℕ) (b : Answer) → j ≡ Refused a p c → b ≡ refused a p c → Done evens t i l u b u
-    done_refused a p c b h k =
-        let failed = (refused-told (judged (evens && (even t && even i)) t i l) f a p c).0 (sym g ∙ h) in
-        rw k (refuses a p c (then_ten ∙ rw failed))
+    pub not_judged : (r : Refusal) → judgement_told (Err r) ≡ published_of (even t && even i) t i l → failed r ≡ verdict
+    not_judged r h =
+        sym (then_ten ∙ rw (failed-judged r (judged (even t && even i) t i l) f h) (failed-then r _))
 
-    module _ (n : ℕ) (h : j ≡ Needs n) where
-      passed : (judged (evens && (even t && even i)) t i l ≡ Passed) × (n ≡ f)
-      passed = (needs_told (judged (evens && (even t && even i)) t i l) f n).0 (sym g ∙ h)
+    pub room_decides : {n : ℕ} {v : Verdict} → Needs n ≡ published_of (even t && even i) t i l
+        → v ≡ test (leb n (length u.size)) 10 0 n → v ≡ verdict
+    room_decides {n} g h =
+        let passed = (needs_told (judged (even t && even i) t i l) f n).0 (sym g) in
+        h ∙ sym (then_ten ∙ rw (passed.0, ← passed.1))
 
-      told : Accepted (evens && (even t && even i)) t i l
-      told = accepted-judged (evens && (even t && even i)) t i l passed.0
+  -- ---- all have passed
+  module _ (h : Passed ≡ verdict) where
+    pub given : Given t i l u
+    unfolding bulk
+    given =
+        let evens : Bool = even t && (even i && even u) in
+        let passed = then-passed (judged evens t i l) (test (leb f (length u.size)) 10 0 f) (sym h) in
+        let told = accepted-judged evens t i l passed.0 in
+        record {
+          table-sound = told.table-sound;
+          passes = told.all_pass;
+          few = told.few-rows;
+          even-new = (T_and (even i) (even u) (T_and (even t) (even i && even u) told.columns-even).1).1;
+          room = leb-true f (length u.size) (test_true _ 10 0 f passed.1);
+        }
 
-      pub done_short : (b : Answer) → length u.size < n → b ≡ refused 10 0 n → Done evens t i l u b u
-      done_short b k m =
-          rw (m, passed.1)
-          (refuses 10 0 f (then_ten ∙ rw (passed.0, lt-leb f (length u.size) (omega (arith, passed.1, k)))))
+    pub value_there : 0 < length t.value
+    value_there = omega (arith, (tall_tree (tree_of given)).value)
 
-      module _ (k : n ≤ length u.size) where
-        pub given : Given t i l u
-        given =
-            record {
-              table-sound = told.table-sound;
-              passes = told.all_pass;
-              few = told.few-rows;
-              even-new = T_of (even u) e;
-              room = omega (arith, passed.1, k);
-            }
+    pub can_begin : Room 1 u
+    can_begin = root-room given
 
-        pub all_passed : verdict ≡ Passed
-        all_passed = then_ten ∙ rw (passed.0, le-leb f (length u.size) (omega (arith, passed.1, k)))
+    pub begun : {v : Table} {c : Cursor} → c ≡ cursor (stand 1 1 0 0) 0 0 0 → v ≡ rowed u 0 1 0 (get_or t.value 0 0)
+        → Underway t i l u v c l
+    begun at written = rw (at, written) (underway-begun given)
 
-  -- what the pass wrote is the answer
-  pub done-written : verdict ≡ Passed → (m : ℕ) (b : Answer) (w : Table) → Answered t i l u w m → b ≡ accepted m
-      → Done evens t i l u b w
-  done-written v m b w q o = record { answered = rw (v, o, q.rows); columns = rw v q.columns }
-
--- a list of one record, as columns of one row
-pub done-single : (t i : Table) (r : Record) (u : Table) (a : Answer) (w : Table)
-    → (let l = lent (r.kind ∷ []) (r.location ∷ []) (r.parent ∷ []) (r.from ∷ []) (r.value ∷ []) in
-    Done (level l) t i (list l) u a w)
-    → Done true t i (r ∷ []) u a w
-unfolding level listed
-done-single t i r u a w h = h
+    -- behind the last record
+    pub done_written : {v w : Table} {c : Cursor} {m : ℕ} (n : ℕ) → length l ≤ n → Underway t i l u v c (drop n l)
+        → Finished t v c w m → Done true t i l u (accepted m) w
+    done_written n k g d =
+        let q = d.answered i l u (rw (drop_all n l k) at g) in
+        record { answered = rw (← h, q.rows); columns = rw (← h) q.columns }

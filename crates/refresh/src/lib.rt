@@ -1,88 +1,93 @@
 // The bulk call and the single call over plain columns: judged by the published tests, and written in one pass.
+// Accepted, the first rows of the new columns are the new table, and the rows behind stay. Refused, nothing is written.
+// In the contracts u are the new columns before, and w after.
 #![tactic(auto)]
 
-ghost use Rattle.std.specs.Prelude.{true, [], ◌∷◌};
-ghost use Rattle.plan.specs.Table.{table};
-ghost use Rattle.plan.specs.Lent.{lent, level, list};
-ghost use Rattle.plan.specs.Call.{Done};
+ghost use Rattle.std.specs.Prelude.{◌≡◌, true, [], ◌∷◌};
+ghost use Rattle.plan.specs.Table.{table, read};
+ghost use Rattle.plan.specs.Lent.{read_list, level, list};
+ghost use Rattle.plan.specs.Told.{verdict_told, answer_told};
+ghost use Rattle.plan.specs.Call.{bulk, Done};
 
-use crate::work::{begin, end, next};
-use judge::judged;
-use judge::list::{record_at, test_level};
-use plan::{Answer, Record, Verdict};
+use judge::exam::judged;
+use judge::list::Level;
+use judge::test_room;
+use pass::{begin, finish, one};
+use plan::Record;
+use plan::lent::{Changes, Records, Table};
+use plan::refusal::Refusal;
+use table::test_even;
 
-pub mod work;
-
-// A list of changes, lent as columns, applied to a table. Accepted, the first rows of the new columns are the new
-// table, and the rows behind stay. Refused, nothing is written.
-pub fn bulk(
-    dist: &[u32],
-    size: &[u32],
-    value: &[u32],
-    kind: &[u32],
-    location: &[u32],
-    parent: &[u32],
-    from: &[u32],
-    values: &[u32],
-    idist: &[u32],
-    isize: &[u32],
-    ivalue: &[u32],
-    ndist: &mut [u32],
-    nsize: &mut [u32],
-    nvalue: &mut [u32],
-) -> Answer
-    ensures { let t = table dist.now size.now value.now in
-        let p = parent.now in
-        let l = lent kind.now location.now p from.now values.now in
-        let i = table idist.now isize.now ivalue.now in
-        let u = table ndist.old nsize.old nvalue.old in
-        let w = table ndist.new nsize.new nvalue.new in
-        Done (level l) t i (list l) u result w }
+// Tests 1 to 10, in their order.
+fn test_all<L: Records>(t: Table, l: &L, i: Table, new: Table) -> Result<(), Refusal>
+    ensures { let t' = read t.entry in
+        let i' = read i.entry in
+        verdict_told result ≡ bulk true t' i' (L.list l.now) (read new.entry) }
 {
-    let Verdict::Passed = test_level(kind, location, parent, from, values) else {
-        return Answer::refused(1, 0, 0);
-    };
-    let j = judged(
-        dist, size, value, kind, location, parent, from, values, idist, isize, ivalue,
-    );
-    let mut s = begin(j, value, ndist, nsize, nvalue);
-    let mut k = 0;
-    while k < kind.len() {
-        let r = record_at(kind, location, parent, from, values, k);
-        s = next(
-            s, r, dist, size, value, idist, isize, ivalue, ndist, nsize, nvalue,
-        );
-        k += 1;
-    }
-    end(s, dist, size, value, ndist, nsize, nvalue)
+    test_even(new)?;
+    let needed = judged(t, l, i)?;
+    test_room(needed, new.size.len())
 }
 
-// One change: judged as a list of one record.
-pub fn single(
-    dist: &[u32],
-    size: &[u32],
-    value: &[u32],
-    r: Record,
-    idist: &[u32],
-    isize: &[u32],
-    ivalue: &[u32],
+// A list of records, however it is lent, applied to a table: tested, and then written, one record after another. The
+// answer is the number of new rows.
+pub fn apply<L: Records>(
+    t: Table,
+    l: &L,
+    i: Table,
     ndist: &mut [u32],
     nsize: &mut [u32],
     nvalue: &mut [u32],
-) -> Answer
-    ensures { let t = table dist.now size.now value.now in
-        let i = table idist.now isize.now ivalue.now in
+) -> Result<u64, Refusal>
+    ensures { let u = table ndist.old nsize.old nvalue.old in
+        let w = table ndist.new nsize.new nvalue.new in
+        Done true (read t.entry) (read i.entry) (L.list l.now) u (answer_told result) w }
+{
+    let new = Table {
+        dist: ndist,
+        size: nsize,
+        value: nvalue,
+    };
+    test_all(t, l, i, new)?;
+    let mut c = begin(t.value[0], ndist, nsize, nvalue);
+    for j in 0..l.len() {
+        c = one(c, l.record(j), t, i, ndist, nsize, nvalue);
+    }
+    let rows = finish(c, t, ndist, nsize, nvalue);
+    Ok(rows as u64)
+}
+
+// A list of changes, lent as columns.
+pub fn bulk(
+    t: Table,
+    l: Changes,
+    i: Table,
+    ndist: &mut [u32],
+    nsize: &mut [u32],
+    nvalue: &mut [u32],
+) -> Result<u64, Refusal>
+    ensures { let l' = read_list l.entry in
         let u = table ndist.old nsize.old nvalue.old in
         let w = table ndist.new nsize.new nvalue.new in
-        Done true t i (r ∷ []) u result w }
+        Done (level l') (read t.entry) (read i.entry) (list l') u (answer_told result) w }
 {
-    let kind: [u32; 1] = [r.kind];
-    let location: [u32; 1] = [r.location];
-    let parent: [u32; 1] = [r.parent];
-    let from: [u32; 1] = [r.from];
-    let values: [u32; 1] = [r.value];
-    bulk(
-        dist, size, value, &kind, &location, &parent, &from, &values, idist, isize, ivalue, ndist,
-        nsize, nvalue,
-    )
+    let level = Level::of(l)?;
+    apply(t, &level, i, ndist, nsize, nvalue)
+}
+
+// One change: a list of one record.
+pub fn single(
+    t: Table,
+    r: Record,
+    i: Table,
+    ndist: &mut [u32],
+    nsize: &mut [u32],
+    nvalue: &mut [u32],
+) -> Result<u64, Refusal>
+    ensures { let u = table ndist.old nsize.old nvalue.old in
+        let w = table ndist.new nsize.new nvalue.new in
+        Done true (read t.entry) (read i.entry) (r ∷ []) u (answer_told result) w }
+{
+    let list: &[Record] = &[r];
+    apply(t, &list, i, ndist, nsize, nvalue)
 }

@@ -2,6 +2,7 @@
 #![tactic(auto)]
 
 use out::worked;
+use refresh::bulk;
 use std::io;
 
 // As many rows of the new table as the call counted, each on a line of its own.
@@ -19,27 +20,19 @@ fn rows(
 }
 
 fn main(rt: HostRuntime) -> io::Result<()> {
-    let t = worked::TABLE;
-    let l = worked::A;
-    let i = worked::INSERTIONS;
-    let mut new_dist: [u32; 8] = [0; 8];
-    let mut new_size: [u32; 8] = [0; 8];
-    let mut new_value: [u32; 8] = [0; 8];
-    let answer = refresh::bulk(
-        t.dist,
-        t.size,
-        t.value,
-        l.kind,
-        l.location,
-        l.parent,
-        l.from,
-        l.value,
-        i.dist,
-        i.size,
-        i.value,
-        &mut new_dist,
-        &mut new_size,
-        &mut new_value,
+    let mut dist: [u32; 8] = [0; 8];
+    let mut size: [u32; 8] = [0; 8];
+    let mut value: [u32; 8] = [0; 8];
+    let answer = bulk(
+        worked::TABLE,
+        worked::A,
+        worked::INSERTIONS,
+        &mut dist,
+        &mut size,
+        &mut value,
     );
-    rows(&rt, &new_dist, &new_size, &new_value, answer.count)
+    match answer {
+        Ok(count) => rows(&rt, &dist, &size, &value, count),
+        Err(refusal) => println!(rt; "{refusal}"),
+    }
 }

@@ -1,9 +1,8 @@
 -- `pass::tail_step` meets its contract: the open row is closed, or the rows left under it are copied.
 -- Assumes nothing.
-use mathlib.Core.Path.{ap, ◌∙◌}
+use mathlib.Core.Path.{◌∙◌}
 use Prim.Native.Nat.{◌-◌}
 use Rattle.pass_moves.specs.Written.{out}
-use Rattle.plan.specs.declared.OldPre.{OldPre}
 use Rattle.plan.specs.Table.{table}
 use Rattle.pass.proofs.AtOnce.{sized-is, parent-ends, can_copy, copied, copied-kept, copied_less, can_close_it, closed, closed-kept, closed_less}
 use Rattle.pass.proofs.tail_step.Goals as goal
@@ -14,13 +13,13 @@ end-e-requires c =
 
 pub close-requires : goal.close-requires
 close-requires c =
-    let e = ap (λ (x : OldPre). x.0) c.end-e.ensures in
-    can_close_it c.requires.0.underway c.requires.1 (c.if-s-e.true ∙ e)
+    let e = c.end-e.ensures in
+    can_close_it c.requires.0.underway c.requires.1 (c.if-c-e.true ∙ e)
 
-pub returns-then-s-e : goal.returns-then-s-e
-returns-then-s-e c =
-    let e = ap (λ (x : OldPre). x.0) c.end-e.ensures in
-    let h = c.if-s-e.true ∙ e in
+pub returns-then-c-e : goal.returns-then-c-e
+returns-then-c-e c =
+    let e = c.end-e.ensures in
+    let h = c.if-c-e.true ∙ e in
     let k = c.close.ensures.result_value in
     let x = table c.args.ndist.now c.args.nsize.now c.args.nvalue.now in
     let u = sized-is x c.args.c.under.0 (out c.args.c - c.args.c.under.0) c.close.ensures.nsize_after in
@@ -36,19 +35,19 @@ returns-then-s-e c =
 
 pub stretch-requires : goal.stretch-requires
 stretch-requires c =
-    let e = ap (λ (x : OldPre). x.0) c.end-e.ensures in
+    let e = c.end-e.ensures in
     can_copy c.requires.0.underway e
 
 pub returns : goal.returns
 returns c =
-    let e = ap (λ (x : OldPre). x.0) c.end-e.ensures in
+    let e = c.end-e.ensures in
     let k = c.stretch.ensures in
-    let a = copied-kept c.requires.0.underway e c.if-s-e.false k.fact k.result_value in (
+    let a = copied-kept c.requires.0.underway e c.if-c-e.false k.fact k.result_value in (
       record {
-        still = λ i l w U. copied U e c.if-s-e.false k.fact k.result_value;
+        still = λ i l w U. copied U e c.if-c-e.false k.fact k.result_value;
         dist = a.dist;
         size = a.size;
         value = a.value;
       },
-      copied_less c.requires.0.underway e c.if-s-e.false k.fact k.result_value,
+      copied_less c.requires.0.underway e c.if-c-e.false k.fact k.result_value,
     )

@@ -2,20 +2,13 @@
 -- Assumes nothing.
 use native.Mathlib.Omega.{arith}
 use mathlib.Core.Path.{refl}
-use lib.ListN.{length-set}
-use borrow.Author.Rules.{rules}
-use Rattle.pass_moves.proofs.Copies.{copy_none, copy_all, rehung-more}
+use Rattle.pass_moves.proofs.Copies.{copy_none, rehung-more}
 use Rattle.pass_moves.proofs.rehang.Goals as goal
 
 pub loop-j-init : goal.loop-j-init
-loop-j-init c = (search rules, copy_none _ _ _ _, refl)
+loop-j-init c = copy_none _ _ _ _
 
 pub loop-j-preserved : goal.loop-j-preserved
 loop-j-preserved c =
-    let inv = c.loop-j.invariant in
     let pre = c.requires in
-    let copied = rehung-more _ _ _ _ _ _ _ _ _ _ pre.0 pre.1 (omega arith) inv.1 refl c.hang.ensures in
-    (search rules, copied, simp length-set (omega arith))
-
-pub returns : goal.returns
-returns c = copy_all _ _ _ _ _ _ _ (omega arith) c.loop-j.invariant.1
+    rehung-more _ _ _ _ _ _ _ _ _ _ pre.0 pre.1 (omega arith) c.loop-j.invariant refl c.hang.ensures

@@ -1,22 +1,10 @@
 -- `pass_moves::stretch` meets its contract: the distances are copied as they hang then, sizes as they are, and the
 -- values that are missing.
 -- Assumes nothing.
-use native.Mathlib.Omega.{arith}
 use mathlib.Core.Path.{◌∙◌}
 use Rattle.plan.specs.Table.{table}
 use Rattle.pass_moves.proofs.Copies.{copy_ahead}
 use Rattle.pass_moves.proofs.stretch.Goals as goal
-
-pub copy-requires-2 : goal.copy-requires-2
-copy-requires-2 c =
-    let h = c.requires in
-    let u = c.unread-left.ensures in
-    (omega (arith, h.there.value, u.high), omega (arith, h.room.value, u.low, u.high))
-
-pub overflow_add-result : goal.overflow_add-result
-overflow_add-result c =
-    let h = c.requires in
-    omega (arith, h.few)
 
 pub returns-clause-fact : goal.returns-clause-fact
 returns-clause-fact c =

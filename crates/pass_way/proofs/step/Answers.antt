@@ -1,12 +1,21 @@
 -- `pass_way::step` meets its contract: the open row is closed, or the rows left under it are copied, all or some of
 -- them.
 -- Assumes nothing.
+use Prim.Native.Nat.{◌<◌}
 use native.Mathlib.Omega.{arith}
-use mathlib.Core.Path.{refl, sym, ap, ◌∙◌}
-use Rattle.plan.specs.declared.OldPre.{OldPre}
+use mathlib.Core.Path.{refl, ◌∙◌}
+use Rattle.pass_moves.specs.Written.{out}
 use Rattle.plan.specs.Table.{table}
 use Rattle.pass_way.proofs.Steps.{parent-ends, can_close, went_close, can_stretch_on, went_all, some-rows-on, went-part}
 use Rattle.pass_way.proofs.step.Goals as goal
+use Rattle.pass_way.proofs.step.Goals.{Else-e-p}
+
+-- behind the rows that are copied there is one before row p, and one before the next new row
+some_rows : (c : Else-e-p) → (0 < c.args.p.0) × (0 < out c.stretch-k.result)
+some_rows c =
+    let k = c.stretch-k.ensures in
+    some-rows-on c.requires.1 c.end-e.ensures c.if-c-e.false c.nearer.ensures k.fact
+    k.result_value c.if-e-p.false c.requires.0
 
 pub end-e-requires : goal.end-e-requires
 end-e-requires c =
@@ -14,47 +23,34 @@ end-e-requires c =
 
 pub close-requires : goal.close-requires
 close-requires c =
-    let e = ap (λ (x : OldPre). x.0) c.end-e.ensures in
-    can_close c.requires.0.ready c.requires.1 (c.if-s-e.true ∙ e)
+    can_close c.requires.0.ready c.requires.1 (c.if-c-e.true ∙ c.end-e.ensures)
 
-pub returns-then-s-e : goal.returns-then-s-e
-returns-then-s-e c =
-    let e = ap (λ (x : OldPre). x.0) c.end-e.ensures in
+pub returns-then-c-e : goal.returns-then-c-e
+returns-then-c-e c =
     let n = c.close.ensures.nsize_after in
-    went_close c.requires.1 (c.if-s-e.true ∙ e) (λ w. table c.args.ndist.now (n w) c.args.nvalue.now)
+    went_close c.requires.1 (c.if-c-e.true ∙ c.end-e.ensures) (λ w. table c.args.ndist.now (n w) c.args.nvalue.now)
     c.close.ensures.result_value c.requires.0
 
 pub stretch-k-requires : goal.stretch-k-requires
 stretch-k-requires c =
-    let e = ap (λ (x : OldPre). x.0) c.end-e.ensures in
-    can_stretch_on c.requires.1 (λ w. c.if-s-e.false (w ∙ sym e)) e c.nearer.ensures c.requires.0
+    can_stretch_on c.requires.1 c.end-e.ensures c.if-c-e.false c.nearer.ensures c.requires.0
 
 pub returns-then-e-p : goal.returns-then-e-p
 returns-then-e-p c =
-    let e = ap (λ (x : OldPre). x.0) c.end-e.ensures in
     let k = c.stretch-k.ensures in
-    went_all c.requires.1 (λ w. c.if-s-e.false (w ∙ sym e)) e c.nearer.ensures k.fact k.result_value c.if-e-p.true
-    c.requires.0
+    went_all c.requires.1 c.end-e.ensures c.if-c-e.false c.nearer.ensures k.fact k.result_value
+    c.if-e-p.true c.requires.0
 
-pub overflow_sub-last : goal.overflow_sub-last
-overflow_sub-last c =
-    let e = ap (λ (x : OldPre). x.0) c.end-e.ensures in
-    let k = c.stretch-k.ensures in
-    let h = some-rows-on c.requires.1 (λ w. c.if-s-e.false (w ∙ sym e)) e c.nearer.ensures k.fact
-    k.result_value c.if-e-p.false c.requires.0 in
-    omega (arith, h.1)
+pub overflow_sub-result-2 : goal.overflow_sub-result-2
+overflow_sub-result-2 c =
+    omega (arith, (some_rows (goal.at.overflow_sub-result-2 c).Else-e-p).1)
 
 pub overflow_sub-result : goal.overflow_sub-result
 overflow_sub-result c =
-    let e = ap (λ (x : OldPre). x.0) c.end-e.ensures in
-    let k = c.stretch-k.ensures in
-    let h = some-rows-on c.requires.1 (λ w. c.if-s-e.false (w ∙ sym e)) e c.nearer.ensures k.fact
-    k.result_value c.if-e-p.false c.requires.0 in
-    omega (arith, h.0)
+    omega (arith, (some_rows (goal.at.overflow_sub-result c).Else-e-p).0)
 
 pub returns : goal.returns
 returns c =
-    let e = ap (λ (x : OldPre). x.0) c.end-e.ensures in
     let k = c.stretch-k.ensures in
-    went-part c.requires.1 (λ w. c.if-s-e.false (w ∙ sym e)) e c.nearer.ensures k.fact k.result_value
+    went-part c.requires.1 c.end-e.ensures c.if-c-e.false c.nearer.ensures k.fact k.result_value
     c.if-e-p.false refl c.requires.0

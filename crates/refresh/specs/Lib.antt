@@ -1,2 +1,0 @@
--- What the contracts of the work on one record cite.
-pub mod Underway

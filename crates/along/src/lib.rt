@@ -7,4 +7,5 @@ pub mod every_old;
 pub mod fill;
 pub mod new_row;
 pub mod old_row;
+pub mod pending;
 pub mod way;

@@ -1,51 +1,48 @@
 // A list that is lent as five columns.
-ghost use Rattle.std.specs.Prelude.{◌≡◌, ◌<◌, length};
-ghost use Rattle.plan.specs.Call.{test};
-ghost use Rattle.plan.specs.Lent.{lent, level, record_at};
-ghost use Rattle.judge.specs.Judgement.{Level};
+ghost use Rattle.std.specs.Prelude.{◌≡◌, MatchResult, true, false};
+ghost use Rattle.plan.specs.Lent.{read_list, level, list};
+ghost use Rattle.judge.specs.Judgement.{Level as IsLevel};
 
-use plan::{Record, Verdict};
-use table::test_even;
+use plan::Record;
+use plan::lent::{Changes, Records};
+use plan::refusal::Uneven;
 
-// Test 1 of the list's own columns: they are equally long.
-pub fn test_level(
-    kind: &[u32],
-    location: &[u32],
-    parent: &[u32],
-    from: &[u32],
-    values: &[u32],
-) -> Verdict
-    ensures { let l = lent kind.now location.now parent.now
-        from.now values.now in
-        result ≡ test (level l) 1 0 0 }
-{
-    let places = test_even(location, kind, parent);
-    let Verdict::Passed = places else {
-        return places;
-    };
-    test_even(from, kind, values)
+// Five columns that are equally long.
+#[derive(Clone, Copy)]
+pub struct Level<'a> {
+    columns: Changes<'a>,
+    ghost level: { IsLevel (read_list columns) },
 }
 
-// Record j of the list.
-pub fn record_at(
-    kind: &[u32],
-    location: &[u32],
-    parent: &[u32],
-    from: &[u32],
-    values: &[u32],
-    j: usize,
-) -> Record
-    requires { let l = lent kind.now location.now parent.now from.now values.now in
-        Level l × (j < length kind.now) }
-    ensures { let l = lent kind.now location.now parent.now
-        from.now values.now in
-        result ≡ record_at l j }
-{
-    Record {
-        kind: kind[j],
-        location: location[j],
-        parent: parent[j],
-        from: from[j],
-        value: values[j],
+impl<'a> Level<'a> {
+    // Test 1 of the list's own columns: they are equally long.
+    #[tactic(auto, unfolding(plan::specs::Lent::level))]
+    pub fn of(l: Changes<'a>) -> Result<Level<'a>, Uneven>
+        ensures { MatchResult result (λ v. (v.columns ≡ l.entry) × (level (read_list l.entry) ≡ true))
+            (λ _. level (read_list l.entry) ≡ false) }
+    {
+        let n = l.kind.len();
+        if l.location.len() != n || l.parent.len() != n || l.from.len() != n || l.value.len() != n {
+            return Err(Uneven);
+        }
+        Ok(Level { columns: l })
+    }
+}
+
+impl Records for Level<'_> {
+    ghost list = { λ l. list (read_list l.columns) };
+
+    fn len(&self) -> usize {
+        self.columns.kind.len()
+    }
+
+    fn record(&self, j: usize) -> Record {
+        Record {
+            kind: self.columns.kind[j],
+            location: self.columns.location[j],
+            parent: self.columns.parent[j],
+            from: self.columns.from[j],
+            value: self.columns.value[j],
+        }
     }
 }

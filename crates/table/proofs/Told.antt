@@ -1,14 +1,41 @@
 -- What an answer tells where a pattern takes it apart: the passing case, and the refusal that is handed on.
 -- Assumes nothing.
-use Rattle.std.proofs.Common.{◌≡◌, ℕ, ◌+◌, ◌<◌, ◌≤◌, List, [], length, sym, refl, ap, ◌∙◌, arith}
+use Rattle.std.proofs.Common.{◌≡◌, ℕ, ◌+◌, ◌<◌, ◌≤◌, Bool, true, List, [], length, Result, Ok, Err, is_ok, sym, refl, ap, ◌∙◌, arith}
+use Rattle.std.specs.Prelude.{⊤}
 use Rattle.plan.specs.declared.Verdict.{Verdict}
 use Rattle.plan.specs.declared.Verdict.TheVariants.{Passed, Failed}
-use Rattle.plan.specs.Table.{table}
-use Rattle.plan.specs.Axes.{cell, row, refuse, reply, asked, whole, parent, first_child, next_sibling, subtree_top, subtree, walk_start}
+use Rattle.plan.specs.declared.refusal.Uneven.{Uneven as UnevenTest}
+use Rattle.plan.specs.declared.refusal.Refusal.{Refusal}
+use Rattle.plan.specs.declared.refusal.Refusal.TheVariants.{Uneven, Unsound, TooManyRecords, BadRecord, TooManyRows, NoRoom, NoSuchRow}
+use Rattle.plan.specs.Table.{Table, table, even, sound}
+use Rattle.plan.specs.Call.{test, answer}
+use Rattle.plan.specs.Told.{even_told, failed}
+use Rattle.plan.specs.Axes.{soundness, cell, row, refuse, reply, asked, whole, parent, first_child, next_sibling, subtree_top, subtree, walk_start}
+use Rattle.plan.proofs.Verdicts.{passed-told, failed_told}
 use Rattle.plan.proofs.Tests.{reply-row, row_same, even_lengths, asked-passed, whole-passed, parent_row}
 use Rattle.plan.specs.declared.Found.{Found}
 use Rattle.plan.specs.declared.Found.TheVariants.{Row, Nothing, Refused}
 use Rattle.plan.specs.Axes.{told, asked_row, started}
+
+-- ---- tests 1 and 2
+pub even_says : (r : Result ⊤ UnevenTest) (b : Bool) → even_told r ≡ test b 1 0 0 → {v : Bool} → v ≡ is_ok r → b ≡ v
+even_says (Ok x) b h e = passed-told b 1 0 0 h refl ∙ sym e
+even_says (Err x) b h e = failed_told b 1 0 0 h refl ∙ sym e
+
+-- the answer of a call that hands a refusal on
+pub answer_failed : (e : Refusal) (v : Verdict) (rows : ℕ) → failed e ≡ v → answer (failed e) 0 ≡ answer v rows
+answer_failed Uneven v rows h = ap (λ (w : Verdict). answer w rows) h
+answer_failed Unsound v rows h = ap (λ (w : Verdict). answer w rows) h
+answer_failed TooManyRecords v rows h = ap (λ (w : Verdict). answer w rows) h
+answer_failed (BadRecord f k) v rows h = ap (λ (w : Verdict). answer w rows) h
+answer_failed (TooManyRows n) v rows h = ap (λ (w : Verdict). answer w rows) h
+answer_failed (NoRoom n) v rows h = ap (λ (w : Verdict). answer w rows) h
+answer_failed (NoSuchRow r) v rows h = ap (λ (w : Verdict). answer w rows) h
+
+-- of an even table the soundness call makes test 2
+pub soundness-even : (t : Table) → even t ≡ true → answer (test (sound t) 2 0 0) (length t.size) ≡ soundness t
+unfolding soundness
+soundness-even t e = rw e refl
 
 -- ---- a call on a row
 -- the row x that was found is the row r that was asked about, in columns of one length

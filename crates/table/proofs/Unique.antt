@@ -1,12 +1,10 @@
 -- Each contract determines its answer: two answers that meet it are equal.
 -- Assumes nothing.
-use Rattle.std.proofs.Common.{◌≡◌, ℕ, ◌+◌, ◌≤◌, List, take, sym, refl, ap, ◌∙◌, arith, take-take}
+use Rattle.std.proofs.Common.{◌≡◌, ℕ, ◌+◌, ◌≤◌, List, take, sym, refl, ap, ◌∙◌, arith, take-take, Option, Some, None}
 use Rattle.plan.specs.Axes.{Reply, Start as Begin, Walked}
 use Rattle.plan.proofs.Kit.{by_place}
 use Rattle.plan.specs.declared.Found.{Found}
 use Rattle.plan.specs.declared.Found.TheVariants.{Row, Nothing, Refused}
-use Rattle.table.specs.declared.climb.Shape.{Shape}
-use Rattle.table.specs.declared.climb.Shape.TheVariants.{Tree, BadAt}
 use Rattle.plan.specs.declared.Start.{Start}
 use Rattle.plan.specs.declared.Walk.{Walk}
 use Rattle.plan.specs.declared.Walk.TheVariants.{Child, Done, Refused as Stopped}
@@ -94,12 +92,12 @@ shape_begun k D S h =
       size_same = refl;
     }
 
-pub shape_once : (D S : List ℕ) (v w : Shape) → Right v D S → Right w D S → v ≡ w
-shape_once D S Tree Tree h k = refl
-shape_once D S Tree (BadAt r) h k = absurd (k.0 (shape_begun (r + 1) D S h))
-shape_once D S (BadAt r) Tree h k = absurd (h.0 (shape_begun (r + 1) D S k))
-shape_once D S (BadAt r) (BadAt s) h k =
+pub shape_once : (D S : List ℕ) (v w : Option ℕ) → Right v D S → Right w D S → v ≡ w
+shape_once D S None None h k = refl
+shape_once D S None (Some r) h k = absurd (k.0 (shape_begun (r + 1) D S h))
+shape_once D S (Some r) None h k = absurd (h.0 (shape_begun (r + 1) D S k))
+shape_once D S (Some r) (Some s) h k =
     by_place r s
     (λ l. absurd (h.0 (begun_less (r + 1) s D S (omega arith) (k.1 (omega arith)))))
-    (λ e. ap BadAt e)
+    (λ e. ap Some e)
     (λ l. absurd (k.0 (begun_less (s + 1) r D S (omega arith) (h.1 (omega arith)))))

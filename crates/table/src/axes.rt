@@ -5,13 +5,14 @@ ghost use Rattle.plan.specs.Axes.{parent as parent_of, first_child, next_sibling
 ghost use Rattle.plan.specs.Axes.{told, asked_row};
 
 use crate::test_even;
-use plan::{Found, Verdict, wide};
+use plan::lent::Table;
+use plan::{Found, wide};
 
 // Tests 1 and 11: the row asked about.
 fn asked(dist: &[u32], size: &[u32], value: &[u32], r: u32) -> Found
     ensures { told result ≡ asked_row (table dist.now size.now value.now) r }
 {
-    let Verdict::Passed = test_even(dist, size, value) else {
+    let Ok(()) = test_even(Table { dist, size, value }) else {
         return Found::Refused(1, 0);
     };
     let x = wide(r);

@@ -22,15 +22,15 @@ up-x-requires c =
 pub loop-r-preserved : goal.loop-r-preserved
 loop-r-preserved c =
     let right : let a = c.args in Fine (cell a.size.now) (cell a.dist.now) c.loop-r.r c.up-x.result =
-    says_true _ _ c.if-fits.true c.fits.ensures in
+    says_true _ _ c.if-not-fits.false c.fits.ensures in
     let i = c.loop-r.invariant in
     (search rules, next_open _ _ _ _ right, next-rows _ _ _ _ _ c.up-x.ensures right i.2)
 
-pub returns-else-fits : goal.returns-else-fits
-returns-else-fits c =
+pub returns-then-not-fits : goal.returns-then-not-fits
+returns-then-not-fits c =
     let i = c.loop-r.invariant in (
       no_way _ _ _ _ (search rules) c.up-x.ensures
-          (says_false _ _ c.if-fits.false c.fits.ensures),
+          (says_false _ _ c.if-not-fits.true c.fits.ensures),
       (λ l. begun-rows _ _ _ _ c.requires i.0 i.2 i.1),
     )
 

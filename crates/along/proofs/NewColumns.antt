@@ -12,7 +12,6 @@ use borrow.Author.Tests.{le-leb, leb-true, eq-eqb, ne_eqb}
 use borrow.Rule.Slice.PartMut.{put_mid}
 use Rattle.std.proofs.lemmas.List.{drop_all}
 use Rattle.std.specs.Prelude.{Ok, Err, ⊤}
-use Rattle.plan.specs.declared.OldPre.{OldPre}
 use Rattle.plan.specs.declared.Record.{Record}
 use Rattle.plan.specs.declared.Stand.{Stand}
 use Rattle.plan.specs.declared.Meeting.{Meeting}
@@ -33,7 +32,8 @@ use Rattle.judge_record.specs.Way.{behind}
 use Rattle.judge_record.proofs.Ways.{ahead, Way, Turn, nothing, renames, here, rows_few, way_few, way_low, way_inside, last-ahead, all_rows}
 use Rattle.along.specs.Reached.{Reached, Meetable, met}
 use Rattle.along.specs.Laid.{rising}
-use Rattle.along.proofs.Told.{numbered, list-refused, judged_told, test_refused, test_told}
+use Rattle.judge.proofs.Told.{failed-fails}
+use Rattle.along.proofs.Told.{list-refused, judged_told, test_refused, test_told}
 use Rattle.along.proofs.Laying.{laid, laid-append, laid-length, laid_front, rising-length, part-length, counted, filled}
 use Rattle.along.proofs.Reaching.{passes, reached-start, way, turned, meetable, reached-more, place-more, place-few}
 
@@ -97,7 +97,7 @@ module _ (t i : Table) (l : List Record) (u : Places) where
   -- ---- the tests
   refused_so : (e : Refusal) → new_verdict true t i l u ≡ failed e → NewDone true t i l u (answer_told (Err e)) u
   refused_so e h =
-      let x = numbered e in
+      let x = failed-fails e in
       record { answered = rw (h, x.is); records = rw (h, x.is); rows = rw (h, x.is) }
 
   -- the two columns differ in length
@@ -388,7 +388,7 @@ module _ (t i : Table) (l : List Record) (u : Places) where
           few = omega (arith, part-length v.rows s.out.0 end (omega arith) wide, few, within);
           done = λ {a} {b} e f.
               let w : Places = places (put_mid s.out.0 (end - s.out.0) v.records a)
-                  (put_mid s.out.0 (end - s.out.0) v.rows b) in
+              (put_mid s.out.0 (end - s.out.0) v.rows b) in
               subst (λ (m : ℕ). NewDone true t i l u (accepted m) w) (sym all)
               (written h.even h.reached.passed h.room w
               (filled v.records s.out.0 end (omega arith) long mark e

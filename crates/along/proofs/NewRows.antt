@@ -31,7 +31,8 @@ use Rattle.plan.proofs.Judged.{accepted-judged}
 use Rattle.judge_record.specs.Way.{behind}
 use Rattle.judge_record.proofs.Ways.{Turn, nothing, renames, here, way_low}
 use Rattle.along.specs.Reached.{Reached, Meetable, met}
-use Rattle.along.proofs.Told.{numbered, list-refused, judged_told, test_refused, test_told}
+use Rattle.judge.proofs.Told.{failed-fails}
+use Rattle.along.proofs.Told.{list-refused, judged_told, test_refused, test_told}
 use Rattle.along.proofs.Reaching.{passes, reached-start, way, turned, meetable, reached-more, place-more, place-few, here-old, here-run, last-old}
 
 module _ (x : ℕ) (t i : Table) (l : List Record) where
@@ -51,7 +52,7 @@ module _ (x : ℕ) (t i : Table) (l : List Record) where
 
   -- ---- the tests
   refused_so : (e : Refusal) → queried true t i l rows x ≡ failed e → Right (was_told (Err e))
-  refused_so e h = let n = numbered e in rw (h, n.is)
+  refused_so e h = let n = failed-fails e in rw (h, n.is)
 
   pub list_refused : (e : Refusal) → judgement_told (Err e) ≡ published_of (even t && even i) t i l
       → Right (was_told (Err e))

@@ -12,12 +12,10 @@ use borrow.Author.Tests.{le-leb, leb-true}
 use borrow.Rule.Slice.PartMut.{put_mid}
 use Rattle.std.proofs.lemmas.List.{drop_all}
 use Rattle.std.specs.Prelude.{Ok, Err, ⊤}
-use Rattle.plan.specs.declared.OldPre.{OldPre}
 use Rattle.plan.specs.declared.Record.{Record}
 use Rattle.plan.specs.declared.Stand.{Stand}
 use Rattle.plan.specs.declared.Meeting.{Meeting}
 use Rattle.plan.specs.declared.Meeting.TheVariants.{Vain, Renamed, Here}
-use Rattle.plan.specs.declared.Answer.{Answer}
 use Rattle.plan.specs.declared.Verdict.TheVariants.{Passed}
 use Rattle.plan.specs.declared.refusal.Refusal.{Refusal}
 use Rattle.plan.specs.Answer.{accepted}
@@ -31,7 +29,8 @@ use Rattle.judge_record.specs.Way.{behind}
 use Rattle.judge_record.proofs.Ways.{Turn, nothing, renames, here, rows_few, way_few, way_inside}
 use Rattle.along.specs.Reached.{Reached, Meetable, met}
 use Rattle.along.specs.Laid.{rising}
-use Rattle.along.proofs.Told.{numbered, list-refused, judged_told, test_refused, test_told}
+use Rattle.judge.proofs.Told.{failed-fails}
+use Rattle.along.proofs.Told.{list-refused, judged_told, test_refused, test_told}
 use Rattle.along.proofs.Laying.{laid, laid-append, laid-length, laid_front, rising-length, part-length, counted, filled}
 use Rattle.along.proofs.Reaching.{passes, reached-start, way, turned, meetable, reached-more, here-row, here-gone, last_row}
 
@@ -104,7 +103,7 @@ module _ (t i : Table) (l : List Record) (u : List ℕ) where
 
   -- ---- the tests
   refused_so : (e : Refusal) → old_verdict true t i l u ≡ failed e → OldDone true t i l u (answer_told (Err e)) u
-  refused_so e h = let x = numbered e in record { answered = rw (h, x.is); column = rw (h, x.is) }
+  refused_so e h = let x = failed-fails e in record { answered = rw (h, x.is); column = rw (h, x.is) }
 
   pub list_refused : (e : Refusal) → judgement_told (Err e) ≡ published_of (even t && even i) t i l
       → OldDone true t i l u (answer_told (Err e)) u
@@ -217,7 +216,7 @@ module _ (t i : Table) (l : List Record) (u : List ℕ) where
         → Going next (put_mid at (next.row.0 - at) counts b) rs
     went_on f =
         let g = filled counts at next.row.0 h.on gone-inside mark f
-            ∙ ap (λ (ns : List ℕ). laid (replicate (next.row.0 - at) mark) ns at) numbers in
+        ∙ ap (λ (ns : List ℕ). laid (replicate (next.row.0 - at) mark) ns at) numbers in
         subst (λ (ns : List ℕ). Going next ns rs) (sym g) h.behind
 
   -- ---- the end
@@ -236,7 +235,7 @@ module _ (t i : Table) (l : List Record) (u : List ℕ) where
       let z = way t i l s [] h.reached in
       let inside = way_inside t i l p s j [] z in
       let numbers = numbers_rise os (n - s.row.0) s.row.0 s.out.0
-          (λ x y c. last_row t i l p s j z x y (omega arith)) in
+      (λ x y c. last_row t i l p s j z x y (omega arith)) in
       record {
         ahead = inside;
         inside = omega (arith, h.long, h.room);

@@ -3,7 +3,7 @@
 -- Assumes nothing.
 use Prim.Native.Nat.{ℕ, suc, ◌+◌, ◌-◌, ◌≤◌, ◌<◌}
 use native.Mathlib.Omega.{arith}
-use mathlib.Core.Path.{◌≡◌, refl, sym, ap, ◌∙◌, subst}
+use mathlib.Core.Path.{◌≡◌, ap, subst}
 use mathlib.Core.Bool.{true, ◌&&◌}
 use mathlib.Core.List.{List, [], ◌∷◌}
 use lib.Dec.{ltb}
@@ -29,7 +29,8 @@ use Rattle.plan.specs.Told.{failed, became_told, judgement_told, verdict_told}
 use Rattle.judge_record.specs.Way.{behind}
 use Rattle.judge_record.proofs.Ways.{Turn, nothing, renames, here, rows_few, way_few}
 use Rattle.along.specs.Reached.{Reached, Meetable, met}
-use Rattle.along.proofs.Told.{numbered, list-refused, judged_told, test_refused, test_told}
+use Rattle.judge.proofs.Told.{failed-fails}
+use Rattle.along.proofs.Told.{list-refused, judged_told, test_refused, test_told}
 use Rattle.along.proofs.Reaching.{passes, reached-start, way, turned, meetable, reached-more, here-row, here-gone, last_row}
 
 module _ (x : ℕ) (t i : Table) (l : List Record) where
@@ -45,7 +46,7 @@ module _ (x : ℕ) (t i : Table) (l : List Record) where
 
   -- ---- the tests
   refused_so : (e : Refusal) → queried true t i l (length t.size) x ≡ failed e → Right (became_told (Err e))
-  refused_so e h = let n = numbered e in rw (h, n.is)
+  refused_so e h = let n = failed-fails e in rw (h, n.is)
 
   pub list_refused : (e : Refusal) → judgement_told (Err e) ≡ published_of (even t && even i) t i l
       → Right (became_told (Err e))

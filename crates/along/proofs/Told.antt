@@ -1,33 +1,16 @@
 -- What the tests of a mapping say, read back: those of the list, and then one more.
 -- Assumes nothing.
 use Prim.Native.Nat.{ℕ}
-use mathlib.Core.Path.{◌≡◌, refl, sym, ◌∙◌}
+use mathlib.Core.Path.{◌≡◌, sym}
 use mathlib.Core.Bool.{Bool, true}
 use Rattle.std.specs.Prelude.{Ok, Err, ⊤}
 use Rattle.plan.specs.declared.Verdict.{Verdict}
-use Rattle.plan.specs.declared.Verdict.TheVariants.{Passed, Failed}
+use Rattle.plan.specs.declared.Verdict.TheVariants.{Passed}
 use Rattle.plan.specs.declared.refusal.Refusal.{Refusal}
-use Rattle.plan.specs.declared.refusal.Refusal.TheVariants.{Uneven, Unsound, TooManyRecords, BadRecord, TooManyRows, NoRoom, NoSuchRow}
 use Rattle.plan.specs.Call.{then, test, judgement}
 use Rattle.plan.specs.Told.{failed, judgement_told, verdict_told}
 use Rattle.plan.proofs.Verdicts.{test_true}
-use Rattle.judge.proofs.Told.{needs_told, refused-told}
-
--- a refusal is a test that failed
-pub record Numbered (e : Refusal) : Type 0 where
-  pub number : ℕ
-  pub place : ℕ
-  pub count : ℕ
-  pub is : failed e ≡ Failed number place count
-
-pub numbered : (e : Refusal) → Numbered e
-numbered Uneven = record { number = 1; place = 0; count = 0; is = refl }
-numbered Unsound = record { number = 2; place = 0; count = 0; is = refl }
-numbered TooManyRecords = record { number = 3; place = 0; count = 0; is = refl }
-numbered (BadRecord f k) = record { number = _; place = k; count = 0; is = refl }
-numbered (TooManyRows n) = record { number = 9; place = 0; count = n; is = refl }
-numbered (NoRoom n) = record { number = 10; place = 0; count = n; is = refl }
-numbered (NoSuchRow r) = record { number = 11; place = r; count = 0; is = refl }
+use Rattle.judge.proofs.Told.{needs_told, failed-then, failed-judged}
 
 -- the judgement v of the list, with n rows needed, and the test b
 module _ (v : Verdict) (n : ℕ) (b : Bool) (number place count : ℕ) where
@@ -35,11 +18,7 @@ module _ (v : Verdict) (n : ℕ) (b : Bool) (number place count : ℕ) where
   both = then v (test b number place count)
 
   pub list-refused : (e : Refusal) → judgement_told (Err e) ≡ judgement v n → both ≡ failed e
-  list-refused e h =
-      let x = numbered e in
-      let f : v ≡ Failed x.number x.place x.count = (refused-told v n x.number x.place x.count).0
-          (sym h ∙ rw x.is) in
-      rw (f, x.is)
+  list-refused e h = rw (failed-judged e v n h) (failed-then e (test b number place count))
 
   pub judged_told : (m : ℕ) → judgement_told (Ok m) ≡ judgement v n → (v ≡ Passed) × (m ≡ n)
   judged_told m h = (needs_told v n m).0 (sym h)

@@ -1,27 +1,25 @@
 // Every new row: the columns of origins.
-ghost use Rattle.std.specs.Prelude.{◌≡◌, true, ◌&&◌};
-ghost use Rattle.plan.specs.Table.{even, read};
-ghost use Rattle.plan.specs.Call.{published_of};
+ghost use Rattle.std.specs.Prelude.{◌≡◌, true};
+ghost use Rattle.plan.specs.Table.{read};
 ghost use Rattle.plan.specs.Mapping.{places, NewDone};
-ghost use Rattle.plan.specs.Told.{answer_told, judgement_told};
+ghost use Rattle.plan.specs.Told.{answer_told};
 
 use crate::fill::count_up;
-use crate::pending::{judged, test_room};
 use crate::way::met;
+use judge::exam::judged;
+use judge::test_room;
 use plan::lent::{Records, Table};
 use plan::refusal::Refusal;
 use plan::{Meeting, Record, Stand};
 
 // The origins up to each record, and those of its run.
 pub fn map_new<L: Records>(
-    j: Result<u64, Refusal>,
     t: Table,
     l: &L,
     i: Table,
     records: &mut [u32],
     rows: &mut [u32],
 ) -> Result<u64, Refusal>
-    requires { judgement_told j ≡ published_of (even (read t) && even (read i)) (read t) (read i) (L.list l.now) }
     ensures { let u = places records.old rows.old in
         let u' = places records.new rows.new in
         NewDone true (read t.entry) (read i.entry) (L.list l.now) u (answer_told result) u' }
@@ -29,7 +27,7 @@ pub fn map_new<L: Records>(
     if rows.len() != records.len() {
         return Err(Refusal::Uneven);
     }
-    let n = judged(j, t, l, i)?;
+    let n = judged(t, l, i)?;
     test_room(n, records.len())?;
     let mut s = Stand::start();
     for k in 0..l.len() {

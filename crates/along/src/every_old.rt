@@ -1,30 +1,23 @@
 // Every old row: the column of new numbers.
-ghost use Rattle.std.specs.Prelude.{◌≡◌, true, ◌&&◌};
-ghost use Rattle.plan.specs.Table.{even, read};
-ghost use Rattle.plan.specs.Call.{published_of};
+ghost use Rattle.std.specs.Prelude.{◌≡◌, true};
+ghost use Rattle.plan.specs.Table.{read};
 ghost use Rattle.plan.specs.Mapping.{OldDone};
-ghost use Rattle.plan.specs.Told.{answer_told, judgement_told};
+ghost use Rattle.plan.specs.Told.{answer_told};
 
 use crate::fill::count_up;
-use crate::pending::{judged, test_room};
 use crate::way::met;
+use judge::exam::judged;
+use judge::test_room;
 use plan::lent::{Records, Table};
 use plan::refusal::Refusal;
 use plan::{Meeting, NewPre, Stand};
 
 // The numbers up to each record, and the mark of the rows that go with it.
-pub fn map_old<L: Records>(
-    j: Result<u64, Refusal>,
-    t: Table,
-    l: &L,
-    i: Table,
-    number: &mut [u32],
-) -> Result<u64, Refusal>
-    requires { judgement_told j ≡ published_of (even (read t) && even (read i)) (read t) (read i) (L.list l.now) }
+pub fn map_old<L: Records>(t: Table, l: &L, i: Table, number: &mut [u32]) -> Result<u64, Refusal>
     ensures { OldDone true (read t.entry) (read i.entry) (L.list l.now) number.old (answer_told result) number.new }
 {
     let rows = t.size.len();
-    judged(j, t, l, i)?;
+    judged(t, l, i)?;
     test_room(rows as u64, number.len())?;
     let mut s = Stand::start();
     for k in 0..l.len() {

@@ -1,34 +1,28 @@
 // One new row: which row it was.
-ghost use Rattle.std.specs.Prelude.{◌≡◌, true, ◌&&◌};
+ghost use Rattle.std.specs.Prelude.{◌≡◌, true};
 ghost use Rattle.plan.specs.Tree.{count};
-ghost use Rattle.plan.specs.Table.{even, read};
+ghost use Rattle.plan.specs.Table.{read};
 ghost use Rattle.plan.specs.Paint.{origins};
-ghost use Rattle.plan.specs.Call.{result as result_of, published_of};
+ghost use Rattle.plan.specs.Call.{result as result_of};
 ghost use Rattle.plan.specs.Mapping.{origin_at, queried, was};
-ghost use Rattle.plan.specs.Told.{was_told, judgement_told};
+ghost use Rattle.plan.specs.Told.{was_told};
 
-use crate::pending::{judged, test_row};
 use crate::way::met;
+use judge::exam::judged;
+use judge::test_row;
 use plan::lent::{Records, Table};
 use plan::refusal::Refusal;
 use plan::{Meeting, NewPre, OldPre, Source, Stand};
 
 // At each record the row is an old one before it, one of its run, or goes on.
-pub fn new_to_old<L: Records>(
-    j: Result<u64, Refusal>,
-    t: Table,
-    l: &L,
-    i: Table,
-    row: NewPre,
-) -> Result<Source, Refusal>
-    requires { judgement_told j ≡ published_of (even (read t) && even (read i)) (read t) (read i) (L.list l.now) }
+pub fn new_to_old<L: Records>(t: Table, l: &L, i: Table, row: NewPre) -> Result<Source, Refusal>
     ensures { let t' = read t.entry in
         let i' = read i.entry in
         let f = result_of t' i' (L.list l.now) in
         let v = queried true t' i' (L.list l.now) (count f) row.0 in
         was_told result ≡ was v (origin_at (origins f) row.0) }
 {
-    let n = judged(j, t, l, i)?;
+    let n = judged(t, l, i)?;
     test_row(row.0, n)?;
     let mut s = Stand::start();
     for k in 0..l.len() {

@@ -53,13 +53,13 @@ pub loop-k-preserved : goal.loop-k-preserved
 loop-k-preserved g c =
     let inv = c.loop-k.invariant in
     elim c.match-met.branch [
-      in-Vain w ↦ rw (w.s-is, w.records-is, w.rows-is) (step _ _ _ _ inv c.record.ensures w.in-Vain.ensures)
-    | in-Renamed w ↦ rw (w.s-is, w.records-is, w.rows-is) (step _ _ _ _ inv c.record.ensures w.in-Renamed.ensures)
-    | in-Here w ↦
-        rw (w.s-is, w.records-is, w.rows-is)
-        (went_on _ _ _ _ (step _ _ _ _ inv c.record.ensures w.in-Here.ensures)
-        (w.fill.ensures.after (λ y h. h)) (w.fill-in-Here.ensures.after (λ y h. h)) w.count_up.ensures
-        w.count_up-in-Here.ensures)
+      | in-Vain w ↦ rw (w.s-is, w.records-is, w.rows-is) (step _ _ _ _ inv c.record.ensures w.in-Vain.ensures)
+      | in-Renamed w ↦ rw (w.s-is, w.records-is, w.rows-is) (step _ _ _ _ inv c.record.ensures w.in-Renamed.ensures)
+      | in-Here w ↦
+          rw (w.s-is, w.records-is, w.rows-is)
+          (went_on _ _ _ _ (step _ _ _ _ inv c.record.ensures w.in-Here.ensures)
+          (w.fill.ensures.after (λ y h. h)) (w.fill-in-Here.ensures.after (λ y h. h)) w.count_up.ensures
+          w.count_up-in-Here.ensures)
     ]
 
 pub overflow_sub-end : goal.overflow_sub-end

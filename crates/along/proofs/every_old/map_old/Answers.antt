@@ -39,12 +39,12 @@ pub loop-k-preserved : goal.loop-k-preserved
 loop-k-preserved g c =
     let inv = c.loop-k.invariant in
     elim c.match-met.branch [
-      in-Vain w ↦ rw (w.s-is, w.number-is) (step _ _ _ _ _ inv c.record.ensures w.in-Vain.ensures)
-    | in-Renamed w ↦ rw (w.s-is, w.number-is) (step _ _ _ _ _ inv c.record.ensures w.in-Renamed.ensures)
-    | in-Here w ↦
-        rw (w.s-is, w.number-is)
-        (went_on _ _ _ _ (step _ _ _ _ _ inv c.record.ensures w.in-Here.ensures) w.count_up.ensures
-        (w.fill.ensures.after (λ y h. h)))
+      | in-Vain w ↦ rw (w.s-is, w.number-is) (step _ _ _ _ _ inv c.record.ensures w.in-Vain.ensures)
+      | in-Renamed w ↦ rw (w.s-is, w.number-is) (step _ _ _ _ _ inv c.record.ensures w.in-Renamed.ensures)
+      | in-Here w ↦
+          rw (w.s-is, w.number-is)
+          (went_on _ _ _ _ (step _ _ _ _ _ inv c.record.ensures w.in-Here.ensures) w.count_up.ensures
+          (w.fill.ensures.after (λ y h. h)))
     ]
 
 pub slice_bounds-count_up-count-2 : goal.slice_bounds-count_up-count-2

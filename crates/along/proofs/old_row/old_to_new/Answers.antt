@@ -31,10 +31,10 @@ pub loop-k-preserved : goal.loop-k-preserved
 loop-k-preserved g c =
     let inv = c.loop-k.invariant in
     elim c.match-met.branch [
-      in-Vain w ↦ rw w.s-is (step _ _ _ _ _ inv c.record.ensures w.in-Vain.ensures)
-    | in-Renamed w ↦ rw w.s-is (step _ _ _ _ _ inv c.record.ensures w.in-Renamed.ensures)
-    | in-Here+else-row-at+else-row-goes w ↦
-        rw w.s-is ((step _ _ _ _ _ inv c.record.ensures w.in-Here.ensures).behind w.if-row-goes.false)
+      | in-Vain w ↦ rw w.s-is (step _ _ _ _ _ inv c.record.ensures w.in-Vain.ensures)
+      | in-Renamed w ↦ rw w.s-is (step _ _ _ _ _ inv c.record.ensures w.in-Renamed.ensures)
+      | in-Here+else-row-at+else-row-goes w ↦
+          rw w.s-is ((step _ _ _ _ _ inv c.record.ensures w.in-Here.ensures).behind w.if-row-goes.false)
     ]
 
 pub overflow_add-result-2 : goal.overflow_add-result-2

@@ -1,9 +1,8 @@
 -- An exam goes on by one record, and ends: the records that passed are themselves a list that passes, so the way along
 -- them stands where the exam does, and behind the last it has counted the rows of the result.
 -- Assumes nothing.
-use Prim.Native.Nat.{ℕ, zero, suc, ◌+◌, ◌-◌, ◌≤◌, ◌<◌}
+use Prim.Native.Nat.{ℕ, suc, ◌+◌, ◌-◌, ◌≤◌, ◌<◌}
 use native.Mathlib.Omega.{arith}
-use native.Mathlib.Numerals.{add-one}
 use mathlib.Core.Path.{◌≡◌, refl, sym, ap, ◌∙◌, subst}
 use mathlib.Core.Bool.{◌&&◌}
 use mathlib.Core.List.{List, [], ◌∷◌, ◌++◌, append_assoc}
@@ -25,7 +24,7 @@ use Rattle.plan.proofs.Kit.{true_of, T_and}
 use Rattle.plan.proofs.Tests.{even_lengths}
 use Rattle.plan.proofs.FourKinds.{run-within}
 use Rattle.plan.proofs.Tested.{passes, tested-passes}
-use Rattle.judge_record.specs.Trial.{Even, RunTested, SoundRows, Faces, RightTrial}
+use Rattle.judge_record.specs.Trial.{Even, RunTested, Faces, RightTrial}
 use Rattle.judge_record.specs.Way.{Meets, behind, stands}
 use Rattle.judge_record.proofs.Places.{sizes_are}
 use Rattle.judge_record.proofs.Ways.{Passes, Way, meets, way_at, way_inside, way_few, all_rows}
@@ -96,6 +95,12 @@ module _ {t i : Table} {l : List Record} {b : Option Record} {s : Stand} {k : �
         tests_left,
       )
 
+  -- a record can be tested behind them
+  pub can_try : Even i × RunTested i b
+  can_try =
+      let m = even_lengths i (true_of (even i) both_even.1) in
+      (record { dists = m.0; values = m.1 }, h.run-tested)
+
   -- all records of the list are here or behind
   all_records : k + length rs ≡ length l
   all_records = omega (arith, h.places, ap length h.whole, length-append h.done rs)
@@ -111,23 +116,13 @@ module _ {t i : Table} {l : List Record} {b : Option Record} {s : Stand} {k : �
       }
 
 -- ---- the next record
-module _ {t i : Table} {l : List Record} {b : Option Record} {s : Stand} {k : ℕ} {r : Record} {rs : List Record}
-    (h : Along t i l b s k (r ∷ rs)) where
+module _ {t i : Table} {l : List Record} {b : Option Record} {s : Stand} {k : ℕ} {r : Record} {rs left : List Record}
+    (along : Along t i l b s k left) (next : left ≡ r ∷ rs) where
   abbrev f : Forest Painted
   f = plan old t
 
-  -- it can be asked for its place, and tested
-  pub sound-rows : SoundRows t.dist t.size
-  sound-rows = record { value = t.value; is-sound = h.table-sound }
-
-  pub can_try : Even i × RunTested i b
-  can_try =
-      let m = even_lengths i (true_of (even i) (both_even h).1) in
-      (record { dists = m.0; values = m.1 }, h.run-tested)
-
-  -- few records passed
-  pub few-passed : k < most_records
-  few-passed = omega (arith, h.few, all_records h)
+  abbrev h : Along t i l b s k (r ∷ rs)
+  h = subst (Along t i l b s k) next along
 
   module _ {p : Place} (faces : Faces t.dist t.size r p) where
     -- its place is that in this tree

@@ -1,11 +1,42 @@
--- Numbers laid over a column, piece by piece: what is still to be laid, over what is there, is the whole.
+-- Numbers counted up, and numbers laid over a column from a row on, piece by piece.
 -- Assumes nothing.
 use Prim.Native.Nat.{ℕ, zero, suc, ◌+◌, ◌-◌, ◌≤◌, ◌<◌}
 use native.Mathlib.Omega.{arith}
-use mathlib.Core.Path.{◌≡◌, refl, ap, ◌∙◌}
+use mathlib.Core.Path.{◌≡◌, refl, sym, ap, ◌∙◌}
 use mathlib.Core.List.{List, [], ◌∷◌, ◌++◌}
-use lib.ListN.{length, drop, set, replicate, length-set}
-use Rattle.along.specs.Laid.{rising, laid}
+use lib.ListN.{length, take, drop, set, replicate, length-set, length-drop, length-replicate}
+use lib.Seq.{length-take-le}
+use borrow.Rule.Slice.PartMut.{put_mid}
+use Rattle.std.proofs.Math.Seq.{take-suc-set}
+use Rattle.std.proofs.lemmas.List.{take_all}
+use Rattle.along.specs.Laid.{rising}
+
+-- ---- counted up
+pub rising-length : (n k : ℕ) → length (rising n k) ≡ n
+rising-length zero k = refl
+rising-length (suc n) k = ap suc (rising-length n (suc k))
+
+rising-more : (n k : ℕ) → rising (suc n) k ≡ rising n k ++ ((k + n) ∷ [])
+rising-more zero k = ap (λ (y : ℕ). y ∷ []) (omega arith)
+rising-more (suc n) k =
+    let e : k + suc n ≡ suc k + n = omega arith in
+    rw e (ap (λ (ns : List ℕ). k ∷ ns) (rising-more n (suc k)))
+
+-- the first x numbers of u are counted up from k: one more, and all
+module _ (u : List ℕ) (k x : ℕ) (h : take x u ≡ rising x k) where
+  pub rising-on : x < length u → take (x + 1) (set u x (k + x)) ≡ rising (x + 1) k
+  rising-on l =
+      let on : x + 1 ≡ suc x = omega arith in
+      rw (on, rising-more x k, take-suc-set) (ap (λ (ns : List ℕ). ns ++ ((k + x) ∷ [])) h)
+
+  pub rising-whole : (n : ℕ) → length u ≡ n → x ≡ n → u ≡ rising n k
+  rising-whole n e f = rw f at (sym (take_all x u (omega arith)) ∙ h)
+
+-- ---- laid over a column
+-- the column u with the numbers xs in it, from row a on
+unfoldable pub laid : List ℕ → List ℕ → ℕ → List ℕ
+laid [] u a = u
+laid (x ∷ xs) u a = laid xs (set u a x) (suc a)
 
 -- one piece after the other
 pub laid-append : (xs ys u : List ℕ) (a : ℕ) → laid (xs ++ ys) u a ≡ laid ys (laid xs u a) (a + length xs)
@@ -18,10 +49,6 @@ pub laid-length : (xs u : List ℕ) (a : ℕ) → length (laid xs u a) ≡ lengt
 unfolding laid
 laid-length [] u a = refl
 laid-length (x ∷ xs) u a = laid-length xs (set u a x) (suc a) ∙ length-set u a x
-
-pub rising-length : (n k : ℕ) → length (rising n k) ≡ n
-rising-length zero k = refl
-rising-length (suc n) k = ap suc (rising-length n (suc k))
 
 -- from row 0 on: the numbers first, and the rows behind stay
 laid-behind : (xs : List ℕ) (u : List ℕ) (b : ℕ) (a : ℕ) → laid xs (b ∷ u) (suc a) ≡ b ∷ laid xs u a
@@ -36,65 +63,23 @@ laid_front (x ∷ xs) [] h = absurd (omega arith)
 laid_front (x ∷ xs) (b ∷ u) h =
     laid-behind xs u x 0 ∙ ap (λ (ys : List ℕ). x ∷ ys) (laid_front xs u (omega arith))
 
--- ---- a loop that lays numbers: from start it came to x, and the column was w and is u
-pub record Rising (w u : List ℕ) (start end first x : ℕ) : Type 0 where
-  pub after : start ≤ x
-  pub before : x ≤ end
-  pub long : length u ≡ length w
-  pub still : laid (rising (end - x) (first + (x - start))) u x ≡ laid (rising (end - start) first) w start
+-- written in a part of the column
+pub laid_part : (xs u : List ℕ) (a k : ℕ) → length xs ≡ k → a + k ≤ length u → put_mid a k u xs ≡ laid xs u a
+laid_part xs u zero k e h = rw (← e) (sym (laid_front xs u (omega arith)))
+laid_part xs [] (suc a) k e h = absurd (omega arith)
+laid_part xs (b ∷ u) (suc a) k e h =
+    ap (λ (ys : List ℕ). b ∷ ys) (laid_part xs u a k e (omega arith)) ∙ sym (laid-behind xs u b a)
 
-pub record Putting (w u : List ℕ) (start end n x : ℕ) : Type 0 where
-  pub after : start ≤ x
-  pub before : x ≤ end
-  pub long : length u ≡ length w
-  pub still : laid (replicate (end - x) n) u x ≡ laid (replicate (end - start) n) w start
+-- counted up, and filled with one number, from row a up to row e
+module _ (u : List ℕ) (a e : ℕ) (h : a ≤ e) (l : e ≤ length u) where
+  pub part-length : length (take (e - a) (drop a u)) ≡ e - a
+  part-length = omega (arith, length-take-le (e - a) (drop a u), length-drop a u)
 
-pub rising-starts : (w : List ℕ) (start end first : ℕ) → start ≤ end → Rising w w start end first start
-rising-starts w start end first h =
-    let z : first + (start - start) ≡ first = omega arith in
-    record { after = omega arith; before = h; long = refl; still = rw z }
+  pub counted : {ys : List ℕ} (k : ℕ) → ys ≡ rising (length (take (e - a) (drop a u))) k
+      → put_mid a (e - a) u ys ≡ laid (rising (e - a) k) u a
+  counted k f = rw (f, part-length) (laid_part (rising (e - a) k) u a (e - a) (rising-length (e - a) k) (omega arith))
 
-pub putting_starts : (w : List ℕ) (start end n : ℕ) → start ≤ end → Putting w w start end n start
-putting_starts w start end n h = record { after = omega arith; before = h; long = refl; still = refl }
-
-module _ (w u : List ℕ) (start end : ℕ) where
-  -- one number more
-  pub rising-more : (first x n : ℕ) → Rising w u start end first x → x < end → n ≡ first + (x - start)
-      → Rising w (set u x n) start end first (x + 1)
-  unfolding laid
-  rising-more first x n r h e =
-      let left : end - x ≡ suc (end - (x + 1)) = omega arith in
-      let number : first + (x + 1 - start) ≡ suc (first + (x - start)) = omega (arith, r.after) in
-      let on : x + 1 ≡ suc x = omega arith in
-      record {
-        after = omega (arith, r.after);
-        before = omega arith;
-        long = length-set u x n ∙ r.long;
-        still = rw (e, number, on) (rw (left, on) at r.still);
-      }
-
-  pub putting_more : (n x : ℕ) → Putting w u start end n x → x < end → Putting w (set u x n) start end n (x + 1)
-  unfolding laid
-  putting_more n x r h =
-      let left : end - x ≡ suc (end - (x + 1)) = omega arith in
-      let on : x + 1 ≡ suc x = omega arith in
-      record {
-        after = omega (arith, r.after);
-        before = omega arith;
-        long = length-set u x n ∙ r.long;
-        still = rw on (rw (left, on) at r.still);
-      }
-
-  -- at the end
-  pub rising-ends : (first x : ℕ) → Rising w u start end first x → end ≤ x
-      → u ≡ laid (rising (end - start) first) w start
-  unfolding laid
-  rising-ends first x r h =
-      let none : end - x ≡ 0 = omega arith in
-      rw none at r.still
-
-  pub putting_ends : (n x : ℕ) → Putting w u start end n x → end ≤ x → u ≡ laid (replicate (end - start) n) w start
-  unfolding laid
-  putting_ends n x r h =
-      let none : end - x ≡ 0 = omega arith in
-      rw none at r.still
+  pub filled : {ys : List ℕ} (n : ℕ) → ys ≡ replicate (length (take (e - a) (drop a u))) n
+      → put_mid a (e - a) u ys ≡ laid (replicate (e - a) n) u a
+  filled n f =
+      rw (f, part-length) (laid_part (replicate (e - a) n) u a (e - a) (length-replicate (e - a) n) (omega arith))

@@ -1,12 +1,5 @@
--- How the mappings along a list are proved.
---
---   Laying       numbers laid over a column, piece by piece
---   Reaching     from record to record, whatever the mapping: where it stands, and what becomes of the rows up to there
---   OldRows      one old row
---   NewRows      one new row
---   OldColumns   every old row
---   NewColumns   every new row
 pub mod Laying
+pub mod Told
 pub mod Reaching
 pub mod OldRows
 pub mod NewRows

@@ -101,7 +101,7 @@ module _ (t i : Table) (l : List Record) where
         (met t.size i.size s r)
     turned = turn t i l (passes h.passed) s (length h.done) r rs (way s (r ∷ rs) h)
 
-    meetable : Meetable t.size i.size s r
+    pub meetable : Meetable t.size i.size s r
     meetable =
         let p = passes h.passed in
         let w = way s (r ∷ rs) h in
@@ -110,10 +110,6 @@ module _ (t i : Table) (l : List Record) where
           runs = λ k. (run-within i r w.passes.0.run_sound k).0;
           meets = meets t i l p s (length h.done) r rs w;
         }
-
-    pub can_meet : (size isize : List ℕ) → t.size ≡ size → i.size ≡ isize → Meetable size isize s r
-    can_meet size isize e f =
-        subst (λ (z : List ℕ). Meetable size z s r) f (subst (λ (z : List ℕ). Meetable z i.size s r) e meetable)
 
     abbrev pub reached-more : Reached t i l (behind s (met t.size i.size s r)) rs
     reached-more =

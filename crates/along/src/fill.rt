@@ -1,27 +1,13 @@
-// Parts of a lent column filled with numbers.
-ghost use Rattle.std.specs.Prelude.{◌≡◌, ◌-◌, length, replicate};
-ghost use Rattle.along.specs.Laid.{rising, laid, Part, Fits};
+// A part of a lent column that is counted up.
+ghost use Rattle.std.specs.Prelude.{◌≡◌, ◌+◌, ◌≤◌, length};
+ghost use Rattle.along.specs.Laid.{rising};
 
-// The rows from start up to end get the numbers first, first + 1 and so on.
-pub fn count_up(column: &mut [u32], start: usize, end: usize, first: usize)
-    requires { Fits (length column.old) start end first }
-    ensures { column.new ≡ laid (rising (end - start) first) column.old start }
+// It gets the numbers first, first + 1 and so on.
+pub fn count_up(part: &mut [u32], first: u32)
+    requires { first + length part.old ≤ 4294967296 }
+    ensures { part.new ≡ rising (length part.old) first }
 {
-    let mut x = start;
-    while x < end {
-        column[x] = (first + (x - start)) as u32;
-        x += 1;
-    }
-}
-
-// The rows from start up to end get one number.
-pub fn put(column: &mut [u32], start: usize, end: usize, number: u32)
-    requires { Part (length column.old) start end }
-    ensures { column.new ≡ laid (replicate (end - start) number) column.old start }
-{
-    let mut x = start;
-    while x < end {
-        column[x] = number;
-        x += 1;
+    for (x, number) in part.iter_mut().enumerate() {
+        *number = first + x as u32;
     }
 }

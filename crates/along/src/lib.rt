@@ -1,5 +1,4 @@
-// The mappings along a list, record by record: whoever has the records hands them over one at a time. Each call begins
-// with the judgement of the list, takes the records in their order, and ends with its answer.
+// The mappings along a list, however it is lent: the judgement of the list, one test more, and then record by record.
 #![tactic(auto)]
 
 pub mod every_new;

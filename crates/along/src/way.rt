@@ -3,12 +3,13 @@ ghost use Rattle.std.specs.Prelude.{◌≡◌};
 ghost use Rattle.along.specs.Reached.{Meetable, met as met_of};
 
 use judge_record::way::{meet, row_behind, run_rows};
+use plan::lent::Table;
 use plan::{Meeting, Record, Stand};
 
-// What it does to the rows.
-pub fn met(s: Stand, r: Record, size: &[u32], isize: &[u32]) -> Meeting
-    requires { Meetable size.now isize.now s r }
-    ensures { result ≡ met_of size.now isize.now s r }
+// What it does to the rows of the table, where its run is one of the insertions.
+pub fn met(s: Stand, r: Record, t: Table, i: Table) -> Meeting
+    requires { Meetable t.size.now i.size.now s r }
+    ensures { result ≡ met_of t.entry.size.now i.entry.size.now s r }
 {
-    meet(s, r, row_behind(size, r), run_rows(isize, r))
+    meet(s, r, row_behind(t.size, r), run_rows(i.size, r))
 }

@@ -9,5 +9,5 @@ meet-requires c =
 pub returns : goal.returns
 returns c =
     let a = c.args in
-    met-is a.size.now a.isize.now a.s a.r _ c.run_rows.ensures _ _
+    met-is a.t.size.now a.i.size.now a.s a.r _ c.run_rows.ensures _ _
     c.row_behind.ensures c.meet.ensures

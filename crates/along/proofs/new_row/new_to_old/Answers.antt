@@ -1,0 +1,54 @@
+-- `along::new_row::new_to_old` meets its contract.
+use native.Mathlib.Omega.{arith}
+use Rattle.std.proofs.lemmas.Result.{err_from_is_err_and}
+use Rattle.along.proofs.NewRows.{list_refused, row_refused, going, asks, few-records, step, fits, last}
+use Rattle.along.proofs.new_row.new_to_old.Goals as goal
+use Rattle.along.proofs.new_row.new_to_old.Goals.{in-Vain, in-Renamed, in-Here+else-row-first+else-row-goes}
+
+pub returns-in_err-n : goal.returns-in_err-n
+returns-in_err-n g c =
+    let p = err_from_is_err_and c.from_residual.result c.from_residual.ensures.1 in
+    rw (p.1, p.2) (list_refused _ _ _ _ _ c.in_err-n.ensures)
+
+pub returns-in_err-test_row : goal.returns-in_err-test_row
+returns-in_err-test_row g c =
+    let f = c.from_residual-in_err-test_row in
+    let p = err_from_is_err_and f.result f.ensures.1 in
+    rw (p.1, p.2) (row_refused _ _ _ _ _ c.in_ok-n.ensures _ c.in_err-test_row.ensures)
+
+pub loop-k-init : goal.loop-k-init
+loop-k-init g c = going _ _ _ _ _ c.in_ok-n.ensures _ c.in_ok-test_row.ensures _ c.start-s.ensures
+
+pub met-requires : goal.met-requires
+met-requires g c = asks _ _ _ _ c.loop-k.invariant c.record.ensures
+
+pub overflow_sub-first : goal.overflow_sub-first
+overflow_sub-first g c = (step _ _ _ _ c.loop-k.invariant c.record.ensures c.in-Here.ensures).run
+
+pub returns-then-row-first : goal.returns-then-row-first
+returns-then-row-first g c =
+    (step _ _ _ _ c.loop-k.invariant c.record.ensures c.in-Here.ensures).before c.if-row-first.true
+
+pub returns-then-row-goes : goal.returns-then-row-goes
+returns-then-row-goes g c =
+    (step _ _ _ _ c.loop-k.invariant c.record.ensures c.in-Here.ensures).within c.if-row-first.false
+    c.if-row-goes.true
+
+pub overflow_cast-result : goal.overflow_cast-result
+overflow_cast-result g c = omega (arith, few-records _ _ _ _ c.loop-k.invariant c.record.ensures)
+
+pub loop-k-preserved : goal.loop-k-preserved
+loop-k-preserved g c =
+    let inv = c.loop-k.invariant in
+    elim c.match-met.branch [
+      | in-Vain w ↦ rw w.s-is (step _ _ _ _ inv c.record.ensures w.in-Vain.ensures)
+      | in-Renamed w ↦ rw w.s-is (step _ _ _ _ inv c.record.ensures w.in-Renamed.ensures)
+      | in-Here+else-row-first+else-row-goes w ↦
+          rw w.s-is ((step _ _ _ _ inv c.record.ensures w.in-Here.ensures).behind w.if-row-goes.false)
+    ]
+
+pub overflow_add-result-2 : goal.overflow_add-result-2
+overflow_add-result-2 g c = omega (arith, (fits _ _ _ _ c.loop-k.invariant).1)
+
+pub returns : goal.returns
+returns g c = last _ _ _ _ c.loop-k.invariant (omega (arith, c.len-k-end.ensures))

@@ -1,0 +1,44 @@
+-- `along::old_row::old_to_new` meets its contract.
+use native.Mathlib.Omega.{arith}
+use Rattle.std.proofs.lemmas.Result.{err_from_is_err_and}
+use Rattle.along.proofs.OldRows.{list_refused, row_refused, asks, step, fits, last}
+use Rattle.along.proofs.old_row.old_to_new.Goals as goal
+use Rattle.along.proofs.old_row.old_to_new.Goals.{in-Vain, in-Renamed, in-Here+else-row-at+else-row-goes}
+
+pub returns-in_err-judged : goal.returns-in_err-judged
+returns-in_err-judged g c =
+    let p = err_from_is_err_and c.from_residual.result c.from_residual.ensures.1 in
+    rw (p.1, p.2) (list_refused _ _ _ _ _ c.in_err-judged.ensures)
+
+pub returns-in_err-test_row : goal.returns-in_err-test_row
+returns-in_err-test_row g c =
+    let f = c.from_residual-in_err-test_row in
+    let p = err_from_is_err_and f.result f.ensures.1 in
+    rw (p.1, p.2) (row_refused _ _ _ _ _ c.in_ok-judged.ensures _ c.in_err-test_row.ensures)
+
+pub met-requires : goal.met-requires
+met-requires g c = asks _ _ _ _ _ c.loop-k.invariant c.record.ensures
+
+pub returns-then-row-at : goal.returns-then-row-at
+returns-then-row-at g c =
+    (step _ _ _ _ _ c.loop-k.invariant c.record.ensures c.in-Here.ensures).before c.if-row-at.true
+
+pub returns-then-row-goes : goal.returns-then-row-goes
+returns-then-row-goes g c =
+    (step _ _ _ _ _ c.loop-k.invariant c.record.ensures c.in-Here.ensures).taken c.if-row-at.false c.if-row-goes.true
+
+pub loop-k-preserved : goal.loop-k-preserved
+loop-k-preserved g c =
+    let inv = c.loop-k.invariant in
+    elim c.match-met.branch [
+      | in-Vain w ↦ rw w.s-is (step _ _ _ _ _ inv c.record.ensures w.in-Vain.ensures)
+      | in-Renamed w ↦ rw w.s-is (step _ _ _ _ _ inv c.record.ensures w.in-Renamed.ensures)
+      | in-Here+else-row-at+else-row-goes w ↦
+          rw w.s-is ((step _ _ _ _ _ inv c.record.ensures w.in-Here.ensures).behind w.if-row-goes.false)
+    ]
+
+pub overflow_add-result-2 : goal.overflow_add-result-2
+overflow_add-result-2 g c = omega (arith, (fits _ _ _ _ c.loop-k.invariant).1)
+
+pub returns : goal.returns
+returns g c = last _ _ _ _ _ c.loop-k.invariant (omega (arith, c.len-k-end.ensures))

@@ -2,7 +2,7 @@
 #![tactic(auto)]
 
 use judge::judged;
-use out::{heading, text, text_number, worked};
+use out::{heading, worked};
 use plan::Judgement;
 use std::io;
 
@@ -11,20 +11,17 @@ const LAST: u32 = 4294967295;
 // The answer, to the end of the line.
 fn told(rt: &impl Print, a: Judgement) -> io::Result<()> {
     match a {
-        Judgement::Needs(n) => text_number(rt, b"needs ", n)?,
+        Judgement::Needs(n) => println!(rt; "needs {n}"),
         Judgement::Refused(number, place, count) => {
-            text_number(rt, b"refused ", number as u64)?;
-            text_number(rt, b", place ", place as u64)?;
-            text_number(rt, b", count ", count)?;
+            println!(rt; "refused {number}, place {place}, count {count}")
         }
     }
-    text(rt, b"\n")
 }
 
 // A list on the table T.
 fn on_t(
     rt: &impl Print,
-    name: &[u8],
+    name: &str,
     kind: &[u32],
     location: &[u32],
     parent: &[u32],
@@ -37,8 +34,7 @@ fn on_t(
     let idist = worked::RUN_DIST;
     let isize = worked::RUN_SIZE;
     let ivalue = worked::RUN_VALUE;
-    text(rt, name)?;
-    text(rt, b": ")?;
+    print!(rt; "{name}: ")?;
     told(
         rt,
         judged(
@@ -48,11 +44,11 @@ fn on_t(
 }
 
 // Lists of one, two and three records, each as its five numbers.
-fn one(rt: &impl Print, name: &[u8], a: [u32; 5]) -> io::Result<()> {
+fn one(rt: &impl Print, name: &str, a: [u32; 5]) -> io::Result<()> {
     on_t(rt, name, &[a[0]], &[a[1]], &[a[2]], &[a[3]], &[a[4]])
 }
 
-fn two(rt: &impl Print, name: &[u8], a: [u32; 5], b: [u32; 5]) -> io::Result<()> {
+fn two(rt: &impl Print, name: &str, a: [u32; 5], b: [u32; 5]) -> io::Result<()> {
     let kind = [a[0], b[0]];
     let location = [a[1], b[1]];
     let parent = [a[2], b[2]];
@@ -61,7 +57,7 @@ fn two(rt: &impl Print, name: &[u8], a: [u32; 5], b: [u32; 5]) -> io::Result<()>
     on_t(rt, name, &kind, &location, &parent, &from, &values)
 }
 
-fn three(rt: &impl Print, name: &[u8], a: [u32; 5], b: [u32; 5], c: [u32; 5]) -> io::Result<()> {
+fn three(rt: &impl Print, name: &str, a: [u32; 5], b: [u32; 5], c: [u32; 5]) -> io::Result<()> {
     let kind = [a[0], b[0], c[0]];
     let location = [a[1], b[1], c[1]];
     let parent = [a[2], b[2], c[2]];
@@ -72,53 +68,53 @@ fn three(rt: &impl Print, name: &[u8], a: [u32; 5], b: [u32; 5], c: [u32; 5]) ->
 
 // The lists of the worked plan that are accepted.
 fn accepted(rt: &impl Print) -> io::Result<()> {
-    three(rt, b"A", [2, 2, 1, 2, 0], [1, 4, 0, 0, 0], [2, 6, 0, 0, 0])?;
-    three(rt, b"B", [1, 4, 0, 0, 0], [2, 6, 4, 2, 0], [2, 6, 0, 0, 0])?;
-    two(rt, b"D", [2, 4, 0, 2, 0], [1, 4, 0, 0, 0])
+    three(rt, "A", [2, 2, 1, 2, 0], [1, 4, 0, 0, 0], [2, 6, 0, 0, 0])?;
+    three(rt, "B", [1, 4, 0, 0, 0], [2, 6, 4, 2, 0], [2, 6, 0, 0, 0])?;
+    two(rt, "D", [2, 4, 0, 2, 0], [1, 4, 0, 0, 0])
 }
 
 fn accepted_too(rt: &impl Print) -> io::Result<()> {
-    one(rt, b"G, rename", [3, 0, 0, 0, 9])?;
-    one(rt, b"I", [2, 3, 2, 2, 0])?;
-    on_t(rt, b"J", &[], &[], &[], &[], &[])?;
-    one(rt, b"K", [4, 1, 0, 2, 0])
+    one(rt, "G, rename", [3, 0, 0, 0, 9])?;
+    one(rt, "I", [2, 3, 2, 2, 0])?;
+    on_t(rt, "J", &[], &[], &[], &[], &[])?;
+    one(rt, "K", [4, 1, 0, 2, 0])
 }
 
 // Those that are refused.
 fn refused(rt: &impl Print) -> io::Result<()> {
-    two(rt, b"C", [2, 6, 0, 0, 0], [2, 6, 4, 2, 0])?;
-    two(rt, b"E", [1, 4, 0, 0, 0], [2, 4, 0, 2, 0])?;
-    two(rt, b"F", [3, 4, 0, 0, 9], [1, 4, 0, 0, 0])?;
-    one(rt, b"G", [1, 0, 0, 0, 0])?;
-    one(rt, b"H", [2, 5, 0, 2, 0])
+    two(rt, "C", [2, 6, 0, 0, 0], [2, 6, 4, 2, 0])?;
+    two(rt, "E", [1, 4, 0, 0, 0], [2, 4, 0, 2, 0])?;
+    two(rt, "F", [3, 4, 0, 0, 9], [1, 4, 0, 0, 0])?;
+    one(rt, "G", [1, 0, 0, 0, 0])?;
+    one(rt, "H", [2, 5, 0, 2, 0])
 }
 
 // Test 4.
 fn kinds(rt: &impl Print) -> io::Result<()> {
-    one(rt, b"kind 0", [0, 1, 0, 0, 0])?;
-    one(rt, b"kind 5", [5, 1, 0, 0, 0])?;
+    one(rt, "kind 0", [0, 1, 0, 0, 0])?;
+    one(rt, "kind 5", [5, 1, 0, 0, 0])?;
     one(
         rt,
-        b"kind 0 at a location past the table",
+        "kind 0 at a location past the table",
         [0, LAST, 0, 0, 0],
     )
 }
 
 // Test 5.
 fn places(rt: &impl Print) -> io::Result<()> {
-    one(rt, b"delete the last row", [1, 6, 0, 0, 0])?;
-    one(rt, b"delete at n", [1, 7, 0, 0, 0])?;
-    one(rt, b"rename at n", [3, 7, 0, 0, 0])?;
-    one(rt, b"replace 0", [4, 0, 0, 0, 0])
+    one(rt, "delete the last row", [1, 6, 0, 0, 0])?;
+    one(rt, "delete at n", [1, 7, 0, 0, 0])?;
+    one(rt, "rename at n", [3, 7, 0, 0, 0])?;
+    one(rt, "replace 0", [4, 0, 0, 0, 0])
 }
 
 fn far_places(rt: &impl Print) -> io::Result<()> {
-    one(rt, b"delete at 4294967295", [1, LAST, 0, 0, 0])?;
-    one(rt, b"insert at 4294967295", [2, LAST, 0, 0, 0])?;
-    one(rt, b"insert under 4294967295", [2, 6, LAST, 0, 0])?;
+    one(rt, "delete at 4294967295", [1, LAST, 0, 0, 0])?;
+    one(rt, "insert at 4294967295", [2, LAST, 0, 0, 0])?;
+    one(rt, "insert under 4294967295", [2, 6, LAST, 0, 0])?;
     one(
         rt,
-        b"delete whose other fields are 4294967295",
+        "delete whose other fields are 4294967295",
         [1, 4, LAST, LAST, LAST],
     )
 }
@@ -127,20 +123,15 @@ fn far_places(rt: &impl Print) -> io::Result<()> {
 fn firsts(rt: &impl Print) -> io::Result<()> {
     three(
         rt,
-        b"test 7, and test 4 in a later record",
+        "test 7, and test 4 in a later record",
         [2, 6, 0, 0, 0],
         [2, 6, 4, 2, 0],
         [0, 6, 0, 0, 0],
     )?;
-    two(
-        rt,
-        b"test 5 before test 6",
-        [1, 1, 0, 0, 0],
-        [2, 5, 0, 3, 0],
-    )?;
+    two(rt, "test 5 before test 6", [1, 1, 0, 0, 0], [2, 5, 0, 3, 0])?;
     three(
         rt,
-        b"delete, with a vain insert and a vain replace",
+        "delete, with a vain insert and a vain replace",
         [1, 1, 0, 0, 0],
         [2, 3, 2, 0, 0],
         [4, 3, 0, 0, 0],
@@ -148,13 +139,12 @@ fn firsts(rt: &impl Print) -> io::Result<()> {
 }
 
 // One insert from f, with these insertions.
-fn run(rt: &impl Print, name: &[u8], idist: [u32; 3], isize: [u32; 3], f: u32) -> io::Result<()> {
+fn run(rt: &impl Print, name: &str, idist: [u32; 3], isize: [u32; 3], f: u32) -> io::Result<()> {
     let dist = worked::DIST;
     let size = worked::SIZE;
     let value = worked::VALUE;
     let ivalue = worked::RUN_VALUE;
-    text(rt, name)?;
-    text(rt, b": ")?;
+    print!(rt; "{name}: ")?;
     told(
         rt,
         judged(
@@ -175,21 +165,21 @@ fn run(rt: &impl Print, name: &[u8], idist: [u32; 3], isize: [u32; 3], f: u32) -
 
 // Test 6.
 fn runs(rt: &impl Print) -> io::Result<()> {
-    run(rt, b"the last run", [1, 1, 1], [2, 1, 1], 2)?;
-    run(rt, b"from m", [1, 1, 1], [2, 1, 1], 3)?;
-    run(rt, b"from 4294967295", [1, 1, 1], [2, 1, 1], LAST)?;
-    run(rt, b"a run that ends at m", [1, 1, 1], [2, 2, 1], 1)
+    run(rt, "the last run", [1, 1, 1], [2, 1, 1], 2)?;
+    run(rt, "from m", [1, 1, 1], [2, 1, 1], 3)?;
+    run(rt, "from 4294967295", [1, 1, 1], [2, 1, 1], LAST)?;
+    run(rt, "a run that ends at m", [1, 1, 1], [2, 2, 1], 1)
 }
 
 fn bad_runs(rt: &impl Print) -> io::Result<()> {
-    run(rt, b"a run that passes m", [1, 1, 1], [2, 1, 2], 2)?;
-    run(rt, b"a run of 4294967295 rows", [1, 1, 1], [2, 1, LAST], 2)?;
-    run(rt, b"a run of no rows", [1, 1, 1], [0, 1, 1], 0)?;
-    run(rt, b"an unsound run", [1, 2, 1], [2, 1, 1], 0)
+    run(rt, "a run that passes m", [1, 1, 1], [2, 1, 2], 2)?;
+    run(rt, "a run of 4294967295 rows", [1, 1, 1], [2, 1, LAST], 2)?;
+    run(rt, "a run of no rows", [1, 1, 1], [0, 1, 1], 0)?;
+    run(rt, "an unsound run", [1, 2, 1], [2, 1, 1], 0)
 }
 
 // Three inserts at the end of three rows with dists 1,1,1 and these sizes.
-fn chain_of(rt: &impl Print, name: &[u8], size: [u32; 3], parent: [u32; 3]) -> io::Result<()> {
+fn chain_of(rt: &impl Print, name: &str, size: [u32; 3], parent: [u32; 3]) -> io::Result<()> {
     let idist = worked::RUN_DIST;
     let isize = worked::RUN_SIZE;
     let ivalue = worked::RUN_VALUE;
@@ -197,8 +187,7 @@ fn chain_of(rt: &impl Print, name: &[u8], size: [u32; 3], parent: [u32; 3]) -> i
     let kind = [2u32; 3];
     let location = [3u32; 3];
     let from = [2, 2, 0];
-    text(rt, name)?;
-    text(rt, b": ")?;
+    print!(rt; "{name}: ")?;
     told(
         rt,
         judged(
@@ -208,28 +197,28 @@ fn chain_of(rt: &impl Print, name: &[u8], size: [u32; 3], parent: [u32; 3]) -> i
 }
 
 // The same on the chain of three rows.
-fn chain(rt: &impl Print, name: &[u8], parent: [u32; 3]) -> io::Result<()> {
+fn chain(rt: &impl Print, name: &str, parent: [u32; 3]) -> io::Result<()> {
     chain_of(rt, name, [3, 2, 1], parent)
 }
 
 // Inserts at location n, under each row of the last line of parents.
 fn ends(rt: &impl Print) -> io::Result<()> {
-    two(rt, b"under 6, then 0", [2, 7, 6, 2, 0], [2, 7, 0, 2, 0])?;
-    two(rt, b"under 0, then 6", [2, 7, 0, 2, 0], [2, 7, 6, 2, 0])?;
-    one(rt, b"under 1, which ends before", [2, 7, 1, 2, 0])
+    two(rt, "under 6, then 0", [2, 7, 6, 2, 0], [2, 7, 0, 2, 0])?;
+    two(rt, "under 0, then 6", [2, 7, 0, 2, 0], [2, 7, 6, 2, 0])?;
+    one(rt, "under 1, which ends before", [2, 7, 1, 2, 0])
 }
 
 fn chains(rt: &impl Print) -> io::Result<()> {
-    chain(rt, b"chain, under 2, 1, 0", [2, 1, 0])?;
-    chain(rt, b"chain, under 2, 2, 0", [2, 2, 0])?;
-    chain(rt, b"chain, under 0, 1, 2", [0, 1, 2])?;
-    chain(rt, b"chain, under 2, 0, 1", [2, 0, 1])
+    chain(rt, "chain, under 2, 1, 0", [2, 1, 0])?;
+    chain(rt, "chain, under 2, 2, 0", [2, 2, 0])?;
+    chain(rt, "chain, under 0, 1, 2", [0, 1, 2])?;
+    chain(rt, "chain, under 2, 0, 1", [2, 0, 1])
 }
 
 // Tests 1 and 2: columns of different length, and an unsound table.
 fn columns(rt: &impl Print) -> io::Result<()> {
-    on_t(rt, b"list, values one short", &[1], &[4], &[0], &[0], &[])?;
-    chain_of(rt, b"sizes 3,1,1 with dists 1,1,1", [3, 1, 1], [2, 1, 0])
+    on_t(rt, "list, values one short", &[1], &[4], &[0], &[0], &[])?;
+    chain_of(rt, "sizes 3,1,1 with dists 1,1,1", [3, 1, 1], [2, 1, 0])
 }
 
 // Test 3: so many equal inserts.
@@ -241,7 +230,7 @@ fn many(rt: &impl Print) -> io::Result<()> {
     let values = [0u32; 1025];
     on_t(
         rt,
-        b"1024 records",
+        "1024 records",
         &kind[..1024],
         &location[..1024],
         &parent[..1024],
@@ -250,7 +239,7 @@ fn many(rt: &impl Print) -> io::Result<()> {
     )?;
     on_t(
         rt,
-        b"1025 records",
+        "1025 records",
         &kind,
         &location,
         &parent,
@@ -259,33 +248,13 @@ fn many(rt: &impl Print) -> io::Result<()> {
     )
 }
 
-// A number goes into a row of a column, if it has that row.
-fn put(column: &mut [u32], r: u32, x: u32) {
-    let at = r as usize;
-    if at < column.len() {
-        column[at] = x;
-    }
-}
-
-// The distances of n rows that all but the first are children of the first.
-fn flat_dists(dist: &mut [u32], n: u32) {
-    let mut r: u32 = 0;
-    while r < n {
-        put(dist, r, r);
-        r += 1;
-    }
-    put(dist, 0, 1);
-}
-
 // One record on the flat table of 65,535 rows.
-fn flat(rt: &impl Print, name: &[u8], kind: u32, location: u32) -> io::Result<()> {
+fn flat(rt: &impl Print, name: &str, kind: u32, location: u32) -> io::Result<()> {
     let mut dist = [0u32; 65535];
-    let mut size = [1u32; 65535];
+    let mut size = [0u32; 65535];
     let value = [0u32; 65535];
-    flat_dists(&mut dist, 65535);
-    put(&mut size, 0, 65535);
-    text(rt, name)?;
-    text(rt, b": ")?;
+    out::flat(&mut dist, &mut size, 65535);
+    print!(rt; "{name}: ")?;
     told(
         rt,
         judged(
@@ -305,13 +274,13 @@ fn flat(rt: &impl Print, name: &[u8], kind: u32, location: u32) -> io::Result<()
 }
 
 fn on_flat(rt: &impl Print) -> io::Result<()> {
-    flat(rt, b"65535 rows, rename", 3, 65534)?;
-    flat(rt, b"65535 rows, insert of one row", 2, 65535)?;
-    flat(rt, b"65535 rows, replace by one row", 4, 65534)
+    flat(rt, "65535 rows, rename", 3, 65534)?;
+    flat(rt, "65535 rows, insert of one row", 2, 65535)?;
+    flat(rt, "65535 rows, replace by one row", 4, 65534)
 }
 
 fn main(rt: HostRuntime) -> io::Result<()> {
-    heading(&rt, b"lists")?;
+    heading(&rt, "lists")?;
     accepted(&rt)?;
     accepted_too(&rt)?;
     refused(&rt)?;

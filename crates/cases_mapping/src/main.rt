@@ -3,50 +3,40 @@
 #![tactic(auto)]
 
 use mapping::{map_new, map_old, new_to_old, old_to_new};
-use out::{column, heading, text, text_number, worked};
+use out::{column, heading, worked};
 use plan::{Answer, Became, NewPre, OldPre, Was};
 use std::io;
 
 // A refusal.
 fn refused(rt: &impl Print, number: u32, place: u32, count: u64) -> io::Result<()> {
-    text_number(rt, b" (refused ", number as u64)?;
-    text_number(rt, b", place ", place as u64)?;
-    text_number(rt, b", count ", count)?;
-    text(rt, b")")
+    print!(rt; " (refused {number}, place {place}, count {count})")
 }
 
 // What became of an old row.
 fn tell_became(rt: &impl Print, b: Became) -> io::Result<()> {
     match b {
-        Became::Row(row) => text_number(rt, b" ", row.0 as u64)?,
-        Became::Gone => text(rt, b" gone")?,
-        Became::Refused(number, place, count) => refused(rt, number, place, count)?,
+        Became::Row(row) => print!(rt; " {}", row.0),
+        Became::Gone => print!(rt; " gone"),
+        Became::Refused(number, place, count) => refused(rt, number, place, count),
     }
-    Ok(())
 }
 
 // Which row a new one was.
 fn tell_was(rt: &impl Print, w: Was) -> io::Result<()> {
     match w {
-        Was::Old(row) => text_number(rt, b" ", row.0 as u64)?,
-        Was::Run(record, row) => {
-            text_number(rt, b" (record ", record as u64)?;
-            text_number(rt, b" row ", row as u64)?;
-            text(rt, b")")?;
-        }
-        Was::Refused(number, place, count) => refused(rt, number, place, count)?,
+        Was::Old(row) => print!(rt; " {}", row.0),
+        Was::Run(record, row) => print!(rt; " (record {record} row {row})"),
+        Was::Refused(number, place, count) => refused(rt, number, place, count),
     }
-    Ok(())
 }
 
 // The answer of a call on whole columns.
 fn tell_answer(rt: &impl Print, a: Answer) -> io::Result<()> {
     if a.number == 0 {
-        text_number(rt, b" accepted, count ", a.count)?;
+        print!(rt; " accepted, count {}", a.count)
     } else {
-        refused(rt, a.number, a.place, a.count)?;
+        refused(rt, a.number, a.place, a.count)
     }
-    Ok(())
 }
 
 // Every old row, and the first that is none.
@@ -64,8 +54,7 @@ fn rows_old(
     let idist = worked::RUN_DIST;
     let isize = worked::RUN_SIZE;
     let ivalue = worked::RUN_VALUE;
-    let mut r: u32 = 0;
-    while r < 8 {
+    for r in 0..8 {
         tell_became(
             rt,
             old_to_new(
@@ -83,7 +72,6 @@ fn rows_old(
                 OldPre(r),
             ),
         )?;
-        r += 1;
     }
     Ok(())
 }
@@ -103,8 +91,7 @@ fn rows_new(
     let idist = worked::RUN_DIST;
     let isize = worked::RUN_SIZE;
     let ivalue = worked::RUN_VALUE;
-    let mut r: u32 = 0;
-    while r < 9 {
+    for r in 0..9 {
         tell_was(
             rt,
             new_to_old(
@@ -122,7 +109,6 @@ fn rows_new(
                 NewPre(r),
             ),
         )?;
-        r += 1;
     }
     Ok(())
 }
@@ -150,9 +136,9 @@ fn column_old(
             number,
         ),
     )?;
-    text(rt, b"\n    number:")?;
+    print!(rt; "\n    number:")?;
     column(rt, number)?;
-    text(rt, b"\n")
+    println!(rt)
 }
 
 // The origin of every new row, into the lent columns.
@@ -179,17 +165,17 @@ fn columns_new(
             records, rows,
         ),
     )?;
-    text(rt, b"\n    record:")?;
+    print!(rt; "\n    record:")?;
     column(rt, records)?;
-    text(rt, b"\n    row:")?;
+    print!(rt; "\n    row:")?;
     column(rt, rows)?;
-    text(rt, b"\n")
+    println!(rt)
 }
 
 // Both mappings of a list on T, row by row and as whole columns of 9 rows that hold 99.
 fn on_t(
     rt: &impl Print,
-    name: &[u8],
+    name: &str,
     kind: &[u32],
     location: &[u32],
     parent: &[u32],
@@ -199,14 +185,13 @@ fn on_t(
     let mut number: [u32; 9] = [99; 9];
     let mut record: [u32; 9] = [99; 9];
     let mut row: [u32; 9] = [99; 9];
-    text(rt, name)?;
-    text(rt, b"\n  old to new:")?;
+    print!(rt; "{name}\n  old to new:")?;
     rows_old(rt, kind, location, parent, from, values)?;
-    text(rt, b"\n  new to old:")?;
+    print!(rt; "\n  new to old:")?;
     rows_new(rt, kind, location, parent, from, values)?;
-    text(rt, b"\n  every old row:")?;
+    print!(rt; "\n  every old row:")?;
     column_old(rt, kind, location, parent, from, values, &mut number)?;
-    text(rt, b"  every new row:")?;
+    print!(rt; "  every new row:")?;
     columns_new(
         rt,
         kind,
@@ -230,15 +215,15 @@ fn on_short(rt: &impl Print) -> io::Result<()> {
     let mut seven: [u32; 7] = [99; 7];
     let mut eight: [u32; 8] = [99; 8];
     let mut other: [u32; 8] = [99; 8];
-    text(rt, b"A, a column of 6 rows:")?;
+    print!(rt; "A, a column of 6 rows:")?;
     column_old(rt, &kind, &location, &parent, &from, &values, &mut six)?;
-    text(rt, b"A, a column of 7 rows:")?;
+    print!(rt; "A, a column of 7 rows:")?;
     column_old(rt, &kind, &location, &parent, &from, &values, &mut seven)?;
-    text(rt, b"A, columns of 6 and 7 rows:")?;
+    print!(rt; "A, columns of 6 and 7 rows:")?;
     columns_new(
         rt, &kind, &location, &parent, &from, &values, &mut six, &mut seven,
     )?;
-    text(rt, b"A, columns of 8 rows:")?;
+    print!(rt; "A, columns of 8 rows:")?;
     columns_new(
         rt, &kind, &location, &parent, &from, &values, &mut eight, &mut other,
     )
@@ -247,11 +232,11 @@ fn on_short(rt: &impl Print) -> io::Result<()> {
 fn main(rt: HostRuntime) -> io::Result<()> {
     heading(
         &rt,
-        b"both mappings of lists on T; the last rows asked about are not in the table",
+        "both mappings of lists on T; the last rows asked about are not in the table",
     )?;
     on_t(
         &rt,
-        b"A",
+        "A",
         &[2, 1, 2],
         &[2, 4, 6],
         &[1, 0, 0],
@@ -260,17 +245,17 @@ fn main(rt: HostRuntime) -> io::Result<()> {
     )?;
     on_t(
         &rt,
-        b"B",
+        "B",
         &[1, 2, 2],
         &[4, 6, 6],
         &[0, 4, 0],
         &[0, 2, 0],
         &[0, 0, 0],
     )?;
-    on_t(&rt, b"C", &[2, 2], &[6, 6], &[0, 4], &[0, 2], &[0, 0])?;
-    on_t(&rt, b"D", &[2, 1], &[4, 4], &[0, 0], &[2, 0], &[0, 0])?;
-    on_t(&rt, b"I", &[2], &[3], &[2], &[2], &[0])?;
-    on_t(&rt, b"K", &[4], &[1], &[0], &[2], &[0])?;
-    heading(&rt, b"lent columns")?;
+    on_t(&rt, "C", &[2, 2], &[6, 6], &[0, 4], &[0, 2], &[0, 0])?;
+    on_t(&rt, "D", &[2, 1], &[4, 4], &[0, 0], &[2, 0], &[0, 0])?;
+    on_t(&rt, "I", &[2], &[3], &[2], &[2], &[0])?;
+    on_t(&rt, "K", &[4], &[1], &[0], &[2], &[0])?;
+    heading(&rt, "lent columns")?;
     on_short(&rt)
 }

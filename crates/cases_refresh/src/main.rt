@@ -2,7 +2,7 @@
 // that stay, new columns that are too short, and a table at the limit.
 #![tactic(auto)]
 
-use out::{column, flat, heading, text, text_number, worked};
+use out::{column, flat, heading, worked};
 use plan::{Answer, Record};
 use refresh::{bulk, single};
 use std::io;
@@ -10,19 +10,19 @@ use std::io;
 // The answer, to the end of the line.
 fn told(rt: &impl Print, a: Answer) -> io::Result<()> {
     if a.number == 0 {
-        text_number(rt, b"accepted, count ", a.count)?;
+        println!(rt; "accepted, count {}", a.count)
     } else {
-        text_number(rt, b"refused ", a.number as u64)?;
-        text_number(rt, b", place ", a.place as u64)?;
-        text_number(rt, b", count ", a.count)?;
+        println!(rt;
+            "refused {}, place {}, count {}",
+            a.number, a.place, a.count
+        )
     }
-    text(rt, b"\n")
 }
 
 // A list on T, with new columns of 9 rows that hold 99.
 fn on_t(
     rt: &impl Print,
-    name: &[u8],
+    name: &str,
     kind: &[u32],
     location: &[u32],
     parent: &[u32],
@@ -38,8 +38,7 @@ fn on_t(
     let mut ndist: [u32; 9] = [99; 9];
     let mut nsize: [u32; 9] = [99; 9];
     let mut nvalue: [u32; 9] = [99; 9];
-    text(rt, name)?;
-    text(rt, b": ")?;
+    print!(rt; "{name}: ")?;
     told(
         rt,
         bulk(
@@ -59,13 +58,13 @@ fn on_t(
             &mut nvalue,
         ),
     )?;
-    text(rt, b"  dist:")?;
+    print!(rt; "  dist:")?;
     column(rt, &ndist)?;
-    text(rt, b"\n  size:")?;
+    print!(rt; "\n  size:")?;
     column(rt, &nsize)?;
-    text(rt, b"\n  value:")?;
+    print!(rt; "\n  value:")?;
     column(rt, &nvalue)?;
-    text(rt, b"\n")
+    println!(rt)
 }
 
 // Case L: A with new columns of 7 rows.
@@ -79,7 +78,7 @@ fn short(rt: &impl Print) -> io::Result<()> {
     let mut ndist: [u32; 7] = [99; 7];
     let mut nsize: [u32; 7] = [99; 7];
     let mut nvalue: [u32; 7] = [99; 7];
-    text(rt, b"L: ")?;
+    print!(rt; "L: ")?;
     told(
         rt,
         bulk(
@@ -99,15 +98,15 @@ fn short(rt: &impl Print) -> io::Result<()> {
             &mut nvalue,
         ),
     )?;
-    text(rt, b"  dist:")?;
+    print!(rt; "  dist:")?;
     column(rt, &ndist)?;
-    text(rt, b"\n")
+    println!(rt)
 }
 
 // A list on the flat table of 65,535 rows, with new columns of as many rows. All other columns of the list are `none`.
 fn on_flat(
     rt: &impl Print,
-    name: &[u8],
+    name: &str,
     kind: &[u32],
     location: &[u32],
     none: &[u32],
@@ -120,8 +119,7 @@ fn on_flat(
     let mut nvalue = [0u32; 65535];
     flat(&mut dist, &mut size, 65535);
     let one: [u32; 1] = [1];
-    text(rt, name)?;
-    text(rt, b": ")?;
+    print!(rt; "{name}: ")?;
     told(
         rt,
         bulk(
@@ -154,7 +152,7 @@ fn alone(rt: &impl Print) -> io::Result<()> {
     let mut ndist: [u32; 7] = [99; 7];
     let mut nsize: [u32; 7] = [99; 7];
     let mut nvalue: [u32; 7] = [99; 7];
-    text(rt, b"single, delete 4: ")?;
+    print!(rt; "single, delete 4: ")?;
     told(
         rt,
         single(
@@ -176,16 +174,16 @@ fn alone(rt: &impl Print) -> io::Result<()> {
             &mut nvalue,
         ),
     )?;
-    text(rt, b"  value:")?;
+    print!(rt; "  value:")?;
     column(rt, &nvalue)?;
-    text(rt, b"\n")
+    println!(rt)
 }
 
 fn main(rt: HostRuntime) -> io::Result<()> {
-    heading(&rt, b"lists on T; new columns of 9 rows that hold 99")?;
+    heading(&rt, "lists on T; new columns of 9 rows that hold 99")?;
     on_t(
         &rt,
-        b"A",
+        "A",
         &[2, 1, 2],
         &[2, 4, 6],
         &[1, 0, 0],
@@ -194,27 +192,27 @@ fn main(rt: HostRuntime) -> io::Result<()> {
     )?;
     on_t(
         &rt,
-        b"B",
+        "B",
         &[1, 2, 2],
         &[4, 6, 6],
         &[0, 4, 0],
         &[0, 2, 0],
         &[0, 0, 0],
     )?;
-    on_t(&rt, b"C", &[2, 2], &[6, 6], &[0, 4], &[0, 2], &[0, 0])?;
-    on_t(&rt, b"D", &[2, 1], &[4, 4], &[0, 0], &[2, 0], &[0, 0])?;
-    on_t(&rt, b"G, rename", &[3], &[0], &[0], &[0], &[9])?;
-    on_t(&rt, b"I", &[2], &[3], &[2], &[2], &[0])?;
-    on_t(&rt, b"J", &[], &[], &[], &[], &[])?;
-    on_t(&rt, b"K", &[4], &[1], &[0], &[2], &[0])?;
+    on_t(&rt, "C", &[2, 2], &[6, 6], &[0, 4], &[0, 2], &[0, 0])?;
+    on_t(&rt, "D", &[2, 1], &[4, 4], &[0, 0], &[2, 0], &[0, 0])?;
+    on_t(&rt, "G, rename", &[3], &[0], &[0], &[0], &[9])?;
+    on_t(&rt, "I", &[2], &[3], &[2], &[2], &[0])?;
+    on_t(&rt, "J", &[], &[], &[], &[], &[])?;
+    on_t(&rt, "K", &[4], &[1], &[0], &[2], &[0])?;
     short(&rt)?;
     alone(&rt)?;
-    heading(&rt, b"the flat table of 65,535 rows")?;
-    on_flat(&rt, b"rename", &[3], &[65534], &[0])?;
-    on_flat(&rt, b"insert of one row", &[2], &[65535], &[0])?;
+    heading(&rt, "the flat table of 65,535 rows")?;
+    on_flat(&rt, "rename", &[3], &[65534], &[0])?;
+    on_flat(&rt, "insert of one row", &[2], &[65535], &[0])?;
     on_flat(
         &rt,
-        b"delete and insert, 65,536 rows in between",
+        "delete and insert, 65,536 rows in between",
         &[1, 2],
         &[1, 65535],
         &[0, 0],

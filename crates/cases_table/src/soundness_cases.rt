@@ -1,16 +1,15 @@
 // The soundness call, and the first bad row.
 use crate::told;
-use out::{flat, heading, text, text_number, worked};
+use out::{flat, heading, worked};
 use std::io;
 use table::climb::first_bad;
 use table::sound::{is_sound, soundness};
 
 // What is said of one table, after its name.
-fn case(rt: &impl Print, name: &[u8], dist: &[u32], size: &[u32], value: &[u32]) -> io::Result<()> {
-    text(rt, name)?;
-    text(rt, b": ")?;
+fn case(rt: &impl Print, name: &str, dist: &[u32], size: &[u32], value: &[u32]) -> io::Result<()> {
+    print!(rt; "{name}: ")?;
     told::answer(rt, soundness(dist, size, value))?;
-    text(rt, b"  first bad row: ")?;
+    print!(rt; "  first bad row: ")?;
     told::shape(rt, first_bad(dist, size))
 }
 
@@ -35,14 +34,9 @@ fn run(
     if e > value.len() {
         return Ok(());
     }
-    text_number(rt, b"insertions from ", f as u64)?;
-    text_number(rt, b" to ", e as u64)?;
-    if is_sound(&dist[f..e], &size[f..e], &value[f..e]) {
-        text(rt, b": sound\n")?;
-    } else {
-        text(rt, b": not sound\n")?;
-    }
-    Ok(())
+    let sound = is_sound(&dist[f..e], &size[f..e], &value[f..e]);
+    let told = if sound { "sound" } else { "not sound" };
+    println!(rt; "insertions from {f} to {e}: {told}")
 }
 
 // The first m rows of the columns.
@@ -62,8 +56,8 @@ fn first_rows(
     if m > value.len() {
         return Ok(());
     }
-    text_number(rt, b"flat, ", m as u64)?;
-    case(rt, b" rows", &dist[..m], &size[..m], &value[..m])
+    print!(rt; "flat, {m}")?;
+    case(rt, " rows", &dist[..m], &size[..m], &value[..m])
 }
 
 // The flat table of n rows, in columns of 65,536.
@@ -80,41 +74,41 @@ fn lengths(rt: &impl Print) -> io::Result<()> {
     let dist = worked::DIST;
     let size = worked::SIZE;
     let value = worked::VALUE;
-    case(rt, b"T", &dist, &size, &value)?;
-    case(rt, b"no rows", &dist[..0], &size[..0], &value[..0])?;
-    case(rt, b"values one row short", &dist, &size, &value[..6])?;
-    case(rt, b"dists one row short", &dist[..6], &size, &value)
+    case(rt, "T", &dist, &size, &value)?;
+    case(rt, "no rows", &dist[..0], &size[..0], &value[..0])?;
+    case(rt, "values one row short", &dist, &size, &value[..6])?;
+    case(rt, "dists one row short", &dist[..6], &size, &value)
 }
 
 // A table of three rows.
-fn three(rt: &impl Print, name: &[u8], dist: [u32; 3], size: [u32; 3]) -> io::Result<()> {
+fn three(rt: &impl Print, name: &str, dist: [u32; 3], size: [u32; 3]) -> io::Result<()> {
     let value: [u32; 3] = [10, 20, 30];
     case(rt, name, &dist, &size, &value)
 }
 
 fn threes(rt: &impl Print) -> io::Result<()> {
-    three(rt, b"sizes 3,1,1 with dists 1,1,1", [1, 1, 1], [3, 1, 1])?;
-    three(rt, b"sizes 3,1,1 with dists 1,1,2", [1, 1, 2], [3, 1, 1])?;
-    three(rt, b"sizes 3,0,1 with dists 1,1,2", [1, 1, 2], [3, 0, 1])
+    three(rt, "sizes 3,1,1 with dists 1,1,1", [1, 1, 1], [3, 1, 1])?;
+    three(rt, "sizes 3,1,1 with dists 1,1,2", [1, 1, 2], [3, 1, 1])?;
+    three(rt, "sizes 3,0,1 with dists 1,1,2", [1, 1, 2], [3, 0, 1])
 }
 
 fn huge(rt: &impl Print) -> io::Result<()> {
     let most: u32 = 4294967295;
     three(
         rt,
-        b"sizes 3,4294967295,1 with dists 1,1,2",
+        "sizes 3,4294967295,1 with dists 1,1,2",
         [1, 1, 2],
         [3, most, 1],
     )?;
     three(
         rt,
-        b"sizes of 4294967295 with dists 1,1,2",
+        "sizes of 4294967295 with dists 1,1,2",
         [1, 1, 2],
         [most, most, most],
     )?;
     three(
         rt,
-        b"dists and sizes of 4294967295",
+        "dists and sizes of 4294967295",
         [most, most, most],
         [most, most, most],
     )
@@ -131,7 +125,7 @@ fn runs(rt: &impl Print) -> io::Result<()> {
 }
 
 pub fn all(rt: &impl Print) -> io::Result<()> {
-    heading(rt, b"soundness")?;
+    heading(rt, "soundness")?;
     lengths(rt)?;
     threes(rt)?;
     huge(rt)?;

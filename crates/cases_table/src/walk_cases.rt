@@ -1,16 +1,14 @@
 // The walk over a row's children.
 use crate::told;
-use out::{heading, text, text_number, worked};
+use out::{heading, worked};
 use std::io;
 use table::walk::start_walk;
 
 // So many steps of a walk.
 fn steps(rt: &impl Print, size: &[u32], start: usize, end: usize, count: u32) -> io::Result<()> {
     let mut next = start;
-    let mut left = count;
-    while left > 0 {
+    for _ in 0..count {
         next = told::step(rt, table::walk::step(size, next, end), next)?;
-        left -= 1;
     }
     Ok(())
 }
@@ -25,20 +23,19 @@ fn walk(
     count: u32,
 ) -> io::Result<()> {
     let start = start_walk(dist, size, value, r);
-    text_number(rt, b"walk over the children of ", r as u64)?;
-    text(rt, b": ")?;
+    print!(rt; "walk over the children of {r}: ")?;
     let answer = start.answer;
     told::found(rt, answer)?;
-    text(rt, b"  steps:")?;
+    print!(rt; "  steps:")?;
     steps(rt, size, start.next, start.end, count)?;
-    text(rt, b"\n")
+    println!(rt)
 }
 
 fn worked_table(rt: &impl Print) -> io::Result<()> {
     let dist = worked::DIST;
     let size = worked::SIZE;
     let value = worked::VALUE;
-    heading(rt, b"walks over T")?;
+    heading(rt, "walks over T")?;
     walk(rt, &dist, &size, &value, 0, 5)?;
     walk(rt, &dist, &size, &value, 1, 4)?;
     walk(rt, &dist, &size, &value, 2, 2)?;
@@ -51,12 +48,12 @@ fn lengths(rt: &impl Print) -> io::Result<()> {
     let dist = worked::DIST;
     let size = worked::SIZE;
     let value = worked::VALUE;
-    heading(rt, b"T with values one row short")?;
+    heading(rt, "T with values one row short")?;
     walk(rt, &dist, &size, &value[..6], 0, 2)
 }
 
 // Two walks over an unsound table of five rows.
-fn five(rt: &impl Print, name: &[u8], size: [u32; 5], r: u32) -> io::Result<()> {
+fn five(rt: &impl Print, name: &str, size: [u32; 5], r: u32) -> io::Result<()> {
     let dist: [u32; 5] = [1, 1, 2, 3, 4];
     let value: [u32; 5] = [10, 20, 30, 40, 50];
     heading(rt, name)?;
@@ -67,17 +64,17 @@ fn five(rt: &impl Print, name: &[u8], size: [u32; 5], r: u32) -> io::Result<()> 
 fn fives(rt: &impl Print) -> io::Result<()> {
     five(
         rt,
-        b"sizes 5,1,4,1,1: the second child passes the end",
+        "sizes 5,1,4,1,1: the second child passes the end",
         [5, 1, 4, 1, 1],
         2,
     )?;
     five(
         rt,
-        b"sizes 5,2,1,0,1: the second child has size 0",
+        "sizes 5,2,1,0,1: the second child has size 0",
         [5, 2, 1, 0, 1],
         3,
     )?;
-    five(rt, b"sizes 4,4294967295,1,1,1", [4, 4294967295, 1, 1, 1], 1)
+    five(rt, "sizes 4,4294967295,1,1,1", [4, 4294967295, 1, 1, 1], 1)
 }
 
 pub fn all(rt: &impl Print) -> io::Result<()> {

@@ -1,6 +1,6 @@
 // The walker over a row's children.
 use crate::told;
-use out::{heading, text, text_number, worked};
+use out::{heading, worked};
 use plan::{Found, Walk};
 use std::io;
 use walker::walker::Walker;
@@ -38,14 +38,13 @@ fn walk(rt: &impl Print, dist: &[u32], size: &[u32], value: &[u32], r: u32) -> i
     let first = three.first;
     let second = three.second;
     let third = three.third;
-    text_number(rt, b"walker over the children of ", r as u64)?;
-    text(rt, b": ")?;
+    print!(rt; "walker over the children of {r}: ")?;
     told::found(rt, start)?;
-    text(rt, b"  steps:")?;
+    print!(rt; "  steps:")?;
     given(rt, first)?;
     given(rt, second)?;
     given(rt, third)?;
-    text(rt, b"\n")
+    println!(rt)
 }
 
 // Rows 0 and 1, and a walk that is refused at its start.
@@ -53,7 +52,7 @@ fn worked_table(rt: &impl Print) -> io::Result<()> {
     let dist = worked::DIST;
     let size = worked::SIZE;
     let value = worked::VALUE;
-    heading(rt, b"the walker on T")?;
+    heading(rt, "the walker on T")?;
     walk(rt, &dist, &size, &value, 0)?;
     walk(rt, &dist, &size, &value, 1)?;
     walk(rt, &dist, &size, &value, 7)
@@ -66,7 +65,7 @@ fn unsound(rt: &impl Print) -> io::Result<()> {
     let value: [u32; 5] = [10, 20, 30, 40, 50];
     heading(
         rt,
-        b"the walker on sizes 5,1,4,1,1: the second child passes the end",
+        "the walker on sizes 5,1,4,1,1: the second child passes the end",
     )?;
     walk(rt, &dist, &size, &value, 0)
 }

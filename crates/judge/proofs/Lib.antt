@@ -1,4 +1,4 @@
-pub mod Listing
 pub mod Judging
+pub mod Listing
 pub mod Onward
 pub mod Told

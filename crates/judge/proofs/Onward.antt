@@ -1,9 +1,8 @@
--- An exam goes on by one record, and ends: the records that passed are themselves a list that passes, so the way along
--- them stands where the exam does, and behind the last it has counted the rows of the result.
+-- The exam of a list, record by record: how it goes on and ends. The records that passed are themselves a list that passes,
+-- so the way along them stands where the exam does, and behind the last it has counted the rows of the result.
 -- Assumes nothing.
-use Prim.Native.Nat.{ℕ, zero, suc, ◌+◌, ◌-◌, ◌≤◌, ◌<◌}
+use Prim.Native.Nat.{ℕ, suc, ◌+◌, ◌-◌, ◌≤◌, ◌<◌}
 use native.Mathlib.Omega.{arith}
-use native.Mathlib.Numerals.{add-one}
 use mathlib.Core.Path.{◌≡◌, refl, sym, ap, ◌∙◌, subst}
 use mathlib.Core.Bool.{◌&&◌}
 use mathlib.Core.List.{List, [], ◌∷◌, ◌++◌, append_assoc}
@@ -13,7 +12,7 @@ use borrow.Author.Tests.{ne_eqb, le-leb}
 use Rattle.plan.specs.declared.Record.{Record}
 use Rattle.plan.specs.declared.Place.{Place}
 use Rattle.plan.specs.declared.Stand.{Stand}
-use Rattle.std.specs.Prelude.{Option, Some, None}
+use Rattle.std.specs.Prelude.{⊤, Option, Some, None, Result, Ok, Err}
 use Rattle.plan.specs.declared.Verdict.TheVariants.{Passed, Failed}
 use Rattle.plan.specs.Tree.{Forest, count}
 use Rattle.plan.specs.Table.{Table, even, sound, most_rows}
@@ -25,45 +24,40 @@ use Rattle.plan.proofs.Kit.{true_of, T_and}
 use Rattle.plan.proofs.Tests.{even_lengths}
 use Rattle.plan.proofs.FourKinds.{run-within}
 use Rattle.plan.proofs.Tested.{passes, tested-passes}
-use Rattle.judge_record.specs.declared.Trial.{Trial}
-use Rattle.judge_record.specs.declared.Trial.TheVariants.{Passed as Good, Failed as Bad}
-use Rattle.judge_record.specs.Trial.{Even, RunTested, SoundRows, Faces, outcome, RightTrial}
+use Rattle.judge_record.specs.Trial.{Even, RunTested, Faces, RightTrial}
 use Rattle.judge_record.specs.Way.{Meets, behind, stands}
 use Rattle.judge_record.proofs.Places.{sizes_are}
-use Rattle.judge_record.proofs.Ways.{Passes, Way, meets, way_at, way_inside, way_few, all_rows}
+use Rattle.judge_record.proofs.Ways.{Passes, Way, meets, way_at, way_inside, all_rows}
 use Rattle.plan.specs.declared.Judgement.{Judgement}
-use Rattle.judge.specs.declared.exam.Exam.{Exam}
-use Rattle.judge.specs.declared.exam.Exam.TheVariants.{Going, Refused}
+use Rattle.plan.specs.declared.Judgement.TheVariants.{Refused}
+use Rattle.plan.specs.declared.refusal.Fault.{Fault}
+use Rattle.plan.specs.declared.refusal.Fault.TheVariants.{Kind, Location, Run as BadRun, Order, Alone}
+use Rattle.plan.specs.Told.{fault}
 use Rattle.plan.specs.Call.{judgement, published_of}
-use Rattle.judge.specs.Underway.{Along, Stage, On}
 use Rattle.judge.proofs.Judging.{judged-first}
 
--- ---- an exam by its cases
-module _ {t i : Table} {l : List Record} {e : Exam} {rs : List Record} (h : On t i l e rs) where
-  -- where it goes on
-  pub going : {b : Option Record} {s : Stand} {k : ℕ} → e ≡ Going b s k → Along t i l b s k rs
-  going q = subst (λ (z : Exam). Stage t i l z rs) q h.stage
-
-  -- where it is refused
-  refused : {a p c : ℕ} → e ≡ Refused a p c → judged (even t && even i) t i l ≡ Failed a p c
-  refused q = subst (λ (z : Exam). Stage t i l z rs) q h.stage
-
-  -- it stays refused, and its refusal is the judgement
-  pub stays : {a p c : ℕ} → e ≡ Refused a p c → (rs' : List Record) → On t i l e rs'
-  stays q rs' = rw q (record { stage = refused q })
-
-  pub published-refused : {a p c : ℕ} → e ≡ Refused a p c
-      → Judgement.Refused a p c ≡ published_of (even t && even i) t i l
-  published-refused q = rw (refused q)
+-- the exam of the list l goes on: tests 1 to 3 passed, and so did the records up to here; the rows go on where these
+-- leave them, and what is left of the tests is what the records rs behind say
+pub record Along (t i : Table) (l : List Record) (before : Option Record) (s : Stand) (passed : ℕ) (rs : List Record)
+    : Type 0 where
+  pub columns-even : T (even t && even i)
+  pub table-sound : T (sound t)
+  pub few : length l ≤ most_records
+  pub done : List Record
+  pub whole : l ≡ done ++ rs
+  pub places : length done ≡ passed
+  pub tests : (qs : List Record)
+      → tested (plan old t) i 0 None (done ++ qs) ≡ tested (plan old t) i passed before qs
+  pub stood : s ≡ stands t.size i.size start done
+  pub run-tested : RunTested i before
 
 -- ---- what the tests of a record tell
-passed_zero : (n : ℕ) (t : Trial) → t ≡ outcome n → t ≡ Good → n ≡ 0
-passed_zero zero t e w = refl
-passed_zero (suc n) t e w = let z : ◌≡◌ {A = ℕ} 0 1 = cc in absurd (omega arith)
-
-failed_number : (n k : ℕ) (t : Trial) → t ≡ outcome n → t ≡ Bad k → (0 < n) × (n ≡ k)
-failed_number zero k t e w = let z : ◌≡◌ {A = ℕ} 0 1 = cc in absurd (omega arith)
-failed_number (suc n) k t e w = (omega arith, cc)
+fault_some : (e : Fault) → 0 < fault e
+fault_some Kind = omega arith
+fault_some Location = omega arith
+fault_some BadRun = omega arith
+fault_some Order = omega arith
+fault_some Alone = omega arith
 
 module _ {A : Type 0} (f : Forest A) (i : Table) where
   tested-next : (j : ℕ) (b : Option Record) (r : Record) (rs : List Record) → failing f i b r ≡ 0
@@ -115,6 +109,12 @@ module _ {t i : Table} {l : List Record} {b : Option Record} {s : Stand} {k : �
         tests_left,
       )
 
+  -- a record can be tested behind them
+  pub can_try : Even i × RunTested i b
+  can_try =
+      let m = even_lengths i (true_of (even i) both_even.1) in
+      (record { dists = m.0; values = m.1 }, h.run-tested)
+
   -- all records of the list are here or behind
   all_records : k + length rs ≡ length l
   all_records = omega (arith, h.places, ap length h.whole, length-append h.done rs)
@@ -130,103 +130,101 @@ module _ {t i : Table} {l : List Record} {b : Option Record} {s : Stand} {k : �
       }
 
 -- ---- the next record
-module _ {t i : Table} {l : List Record} {b : Option Record} {s : Stand} {k : ℕ} {r : Record} {rs : List Record}
-    (h : Along t i l b s k (r ∷ rs)) where
+module _ {t i : Table} {l : List Record} {b : Option Record} {s : Stand} {k : ℕ} {r : Record} {rs left : List Record}
+    (along : Along t i l b s k left) (next : left ≡ r ∷ rs) where
   abbrev f : Forest Painted
   f = plan old t
 
-  -- it can be asked for its place, and tested
-  pub sound-rows : SoundRows t.dist t.size
-  sound-rows = record { value = t.value; is-sound = h.table-sound }
+  abbrev h : Along t i l b s k (r ∷ rs)
+  h = subst (Along t i l b s k) next along
 
-  pub can_try : Even i × RunTested i b
-  can_try =
-      let m = even_lengths i (true_of (even i) (both_even h).1) in
-      (record { dists = m.0; values = m.1 }, h.run-tested)
-
-  -- few records passed
-  pub few-passed : k < most_records
-  few-passed = omega (arith, h.few, all_records h)
-
-  module _ {p : Place} {m : Trial} (faces : Faces t.dist t.size r p) (right : RightTrial p i b r m) where
+  module _ {p : Place} (faces : Faces t.dist t.size r p) where
     -- its place is that in this tree
     found : p ≡ place_of f r
     found = faces.faces t.value h.table-sound
 
-    -- it fails a test: that is the judgement
-    pub fails : {n : ℕ} → m ≡ Bad n → On t i l (Refused n k 0) rs
-    fails {n} w =
-        let z = failed_number (failing f i b r) n m (right f found) w in
-        record { stage = judged-left h ∙ rw (tested-fails f i k n b r rs z.1 (omega arith)) }
+    module _ {m : Result ⊤ Fault} (right : RightTrial p i b r m) where
+      -- it fails a test: that is the judgement
+      pub fails : {e : Fault} → m ≡ Err e → Refused (fault e) k 0 ≡ published_of (even t && even i) t i l
+      fails {e} w =
+          let z : fault e ≡ failing f i b r = rw w at (right f found) in
+          rw (judged-left h, tested-fails f i k (fault e) b r rs (sym z) (fault_some e))
 
-    module _ (w : m ≡ Good) where
-      -- it fails none
-      none-fails : failing f i b r ≡ 0
-      none-fails = passed_zero (failing f i b r) m (right f found) w
+      module _ {x : ⊤} (w : m ≡ Ok x) where
+        -- it fails none
+        none-fails : failing f i b r ≡ 0
+        none-fails = let z : 0 ≡ failing f i b r = rw w at (right f found) in sym z
 
-      alone-passes : tested f i k b (r ∷ []) ≡ Passed
-      alone-passes = tested-next f i k b r [] none-fails ∙ tested-none f i (suc k) (Some r)
+        alone-passes : tested f i k b (r ∷ []) ≡ Passed
+        alone-passes = tested-next f i k b r [] none-fails ∙ tested-none f i (suc k) (Some r)
 
-      -- with it, too, the records up to here are a list that passes
-      passing_here : Passes t i (h.done ++ (r ∷ []))
-      passing_here = passing h (r ∷ []) (omega arith) alone-passes
+        -- with it, too, the records up to here are a list that passes
+        passing_here : Passes t i (h.done ++ (r ∷ []))
+        passing_here = passing h (r ∷ []) (omega arith) alone-passes
 
-      way_here : Way t i (h.done ++ (r ∷ [])) passing_here s (length h.done) (r ∷ [])
-      way_here =
-          subst (λ (x : Stand). Way t i (h.done ++ (r ∷ [])) passing_here x (length h.done) (r ∷ []))
-          (sym h.stood)
-          (way_at t i h.done (r ∷ []) passing_here)
+        way_here : Way t i (h.done ++ (r ∷ [])) passing_here s (length h.done) (r ∷ [])
+        way_here =
+            subst (λ (x : Stand). Way t i (h.done ++ (r ∷ [])) passing_here x (length h.done) (r ∷ []))
+            (sym h.stood)
+            (way_at t i h.done (r ∷ []) passing_here)
 
-      -- its run can be counted, and it can be met
-      pub can_count : T (has_run r) → r.from < length i.size
-      can_count u = (run-within i r (passes f i b r none-fails).run_sound u).0
+        -- its run can be counted, and it can be met
+        pub can_count : T (has_run r) → r.from < length i.size
+        can_count u = (run-within i r (passes f i b r none-fails).run_sound u).0
 
-      pub can_meet : {n : ℕ} → n ≡ brought i.size r → Meets s r n
-      can_meet e =
-          rw e (meets t i (h.done ++ (r ∷ [])) passing_here s (length h.done) r [] way_here)
+        pub can_meet : {n : ℕ} → n ≡ brought i.size r → Meets s r n
+        can_meet e =
+            rw e (meets t i (h.done ++ (r ∷ [])) passing_here s (length h.done) r [] way_here)
 
-      -- its run passed
-      run-passed : RunTested i (Some r)
-      run-passed =
-          record {
-            passed = λ q e.
-                let same : r ≡ q = cc in
-                subst (λ (x : Record). T (runs i x)) same (passes f i b r none-fails).run_sound;
-          }
+        -- its run passed
+        run-passed : RunTested i (Some r)
+        run-passed =
+            record {
+              passed = λ q e.
+                  let same : r ≡ q = cc in
+                  subst (λ (x : Record). T (runs i x)) same (passes f i b r none-fails).run_sound;
+            }
 
-      -- where it leaves the rows
-      end_found : p.end.0 ≡ goes_on_at t.size r
-      unfolding place_of
-      end_found =
-          ap (λ (x : Place). x.end.0) found
-          ∙ ap (λ (S : List ℕ). goes_on_at S r) (sizes_are t.dist t.size t.value h.table-sound)
+        -- where it leaves the rows
+        end_found : p.end.0 ≡ goes_on_at t.size r
+        unfolding place_of
+        end_found =
+            ap (λ (x : Place). x.end.0) found
+            ∙ ap (λ (S : List ℕ). goes_on_at S r) (sizes_are t.dist t.size t.value h.table-sound)
 
-      stood-behind : {n : ℕ} {s' : Stand} → n ≡ brought i.size r → s' ≡ behind s (meeting s r p.end.0 n)
-          → s' ≡ stands t.size i.size start (h.done ++ (r ∷ []))
-      stood-behind {n} e c =
-          c ∙ rw (end_found, e, h.stood) (sym (stands-more t.size i.size start h.done r))
+        stood-behind : {n : ℕ} {s' : Stand} → n ≡ brought i.size r → s' ≡ behind s (meeting s r p.end.0 n)
+            → s' ≡ stands t.size i.size start (h.done ++ (r ∷ []))
+        stood-behind {n} e c =
+            c ∙ rw (end_found, e, h.stood) (sym (stands-more t.size i.size start h.done r))
 
-      -- the exam goes on behind it
-      pub goes_on : {n : ℕ} {s' : Stand} → n ≡ brought i.size r → s' ≡ behind s (meeting s r p.end.0 n)
-          → On t i l (Going (Some r) s' (k + 1)) rs
-      goes_on {n} {s'} e c =
-          record {
-            stage =
-                record {
-                  columns-even = h.columns-even;
-                  table-sound = h.table-sound;
-                  few = h.few;
-                  done = h.done ++ (r ∷ []);
-                  whole = h.whole ∙ sym (append_assoc h.done (r ∷ []) rs);
-                  places = omega (arith, h.places, length-append h.done (r ∷ []));
-                  tests = λ qs. rw (append_assoc h.done (r ∷ []) qs, add-one k)
-                      (h.tests (r ∷ qs) ∙ tested-next f i k b r qs none-fails);
-                  stood = stood-behind e c;
-                  run-tested = run-passed;
-                };
-          }
+        -- the exam goes on behind it
+        pub goes_on : {n : ℕ} {s' : Stand} → n ≡ brought i.size r → s' ≡ behind s (meeting s r p.end.0 n)
+            → Along t i l (Some r) s' (suc k) rs
+        goes_on {n} {s'} e c =
+            record {
+              columns-even = h.columns-even;
+              table-sound = h.table-sound;
+              few = h.few;
+              done = h.done ++ (r ∷ []);
+              whole = h.whole ∙ sym (append_assoc h.done (r ∷ []) rs);
+              places = omega (arith, h.places, length-append h.done (r ∷ []));
+              tests = λ qs. rw (append_assoc h.done (r ∷ []) qs)
+                  (h.tests (r ∷ qs) ∙ tested-next f i k b r qs none-fails);
+              stood = stood-behind e c;
+              run-tested = run-passed;
+            }
 
 -- ---- behind the last record
+empty : (rs : List Record) → length rs ≡ 0 → rs ≡ []
+empty [] e = refl
+empty (r ∷ rs) e = absurd (omega arith)
+
+-- where so many records passed as there are, none is left
+pub none_left : {t i : Table} {l : List Record} {b : Option Record} {s : Stand} {k : ℕ} {rs : List Record}
+    → Along t i l b s k rs → length l ≤ k → Along t i l b s k []
+none_left {t} {i} {l} {b} {s} {k} {rs} h m =
+    let z : rs ≡ [] = empty rs (omega (arith, all_records h)) in rw z at h
+
 module _ {t i : Table} {l : List Record} {b : Option Record} {s : Stand} {k : ℕ} (h : Along t i l b s k []) where
   all_done : l ≡ h.done ++ []
   all_done = h.whole
@@ -245,12 +243,9 @@ module _ {t i : Table} {l : List Record} {b : Option Record} {s : Stand} {k : �
       all_rows t i (h.done ++ []) passing_all s (length h.done) way_all
       ∙ ap (λ (x : List Record). count (result t i x)) (sym all_done)
 
-  -- and few
-  pub few-rows : (s.row.0 ≤ length t.size) × (s.out.0 ≤ 134215680)
-  few-rows = (
-    way_inside t i (h.done ++ []) passing_all s (length h.done) [] way_all,
-    way_few t i (h.done ++ []) passing_all s (length h.done) [] way_all,
-  )
+  -- and the rows go on inside the table
+  pub row_inside : s.row.0 ≤ length t.size
+  row_inside = way_inside t i (h.done ++ []) passing_all s (length h.done) [] way_all
 
   -- test 9 of that many rows is the judgement
   pub published-rows : {o r : ℕ} {a : Judgement} → o ≡ s.out.0 → r ≡ s.row.0

@@ -3,67 +3,42 @@
 #![tactic(auto)]
 
 ghost use Rattle.std.specs.Prelude.{◌≡◌, leb, ltb};
-ghost use Rattle.plan.specs.Table.{table};
-ghost use Rattle.plan.specs.Call.{test};
-ghost use Rattle.plan.specs.Lent.{lent};
-ghost use Rattle.plan.specs.Call.{published};
+ghost use Rattle.plan.specs.Call.{test, published};
+ghost use Rattle.plan.specs.Lent.{read_list};
+ghost use Rattle.plan.specs.Table.{read};
+ghost use Rattle.plan.specs.Told.{verdict_told, judgement_told};
 
-use crate::exam::{begin, end, looked_at, next};
-use crate::list::{record_at, test_level};
-use plan::{Judgement, Verdict};
+use crate::list::Level;
+use plan::lent::{Changes, Table};
+use plan::refusal::Refusal;
 
 pub mod exam;
 pub mod list;
 
 // Test 10: the lent columns have room for n rows.
-pub fn test_room(n: u64, room: usize) -> Verdict
-    ensures { result ≡ test (leb n room) 10 0 n }
+pub fn test_room(n: u64, room: usize) -> Result<(), Refusal>
+    ensures { verdict_told result ≡ test (leb n room) 10 0 n }
 {
     if n > room as u64 {
-        return Verdict::Failed(10, 0, n);
+        return Err(Refusal::NoRoom(n));
     }
-    Verdict::Passed
+    Ok(())
 }
 
 // Test 11: the row is one of n rows.
-pub fn test_row(row: u32, n: u64) -> Verdict
-    ensures { result ≡ test (ltb row n) 11 row 0 }
+pub fn test_row(row: u32, n: u64) -> Result<(), Refusal>
+    ensures { verdict_told result ≡ test (ltb row n) 11 row 0 }
 {
     if row as u64 >= n {
-        return Verdict::Failed(11, row, 0);
+        return Err(Refusal::NoSuchRow(row));
     }
-    Verdict::Passed
+    Ok(())
 }
 
 // The whole judgement: tests 1 to 9, and the rows needed.
-pub fn judged(
-    dist: &[u32],
-    size: &[u32],
-    value: &[u32],
-    kind: &[u32],
-    location: &[u32],
-    parent: &[u32],
-    from: &[u32],
-    values: &[u32],
-    idist: &[u32],
-    isize: &[u32],
-    ivalue: &[u32],
-) -> Judgement
-    ensures { let t = table dist.now size.now value.now in
-        let i = table idist.now isize.now ivalue.now in
-        let l = lent kind.now location.now parent.now
-        from.now values.now in
-        result ≡ published t i l }
+pub fn judged(t: Table, l: Changes, i: Table) -> Result<u64, Refusal>
+    ensures { judgement_told result ≡ published (read t.entry) (read i.entry) (read_list l.entry) }
 {
-    let Verdict::Passed = test_level(kind, location, parent, from, values) else {
-        return Judgement::Refused(1, 0, 0);
-    };
-    let mut e = begin(kind.len(), dist, size, value, idist, isize, ivalue);
-    let mut j = 0;
-    while j < looked_at(e, kind.len()) {
-        let r = record_at(kind, location, parent, from, values, j);
-        e = next(e, r, dist, size, idist, isize, ivalue);
-        j += 1;
-    }
-    end(e, size)
+    let level = Level::try_from(l)?;
+    exam::judged(t, &level, i)
 }

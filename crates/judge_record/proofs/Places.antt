@@ -1,15 +1,14 @@
--- What a record asks of the table: on a sound table it is read off the distances and sizes; and test 5, by what it
--- finds.
+-- What a record asks of the table: on a sound table it is read off the distances and sizes.
 -- Assumes nothing.
 use Prim.Native.Nat.{ℕ, ◌+◌, ◌≤◌, ◌<◌}
 use native.Mathlib.Omega.{arith}
 use mathlib.Core.Path.{◌≡◌, sym, ap, ◌∙◌, subst}
-use mathlib.Core.Bool.{Bool, true, false, cond, ◌&&◌, ◌||◌}
-use mathlib.Core.Logic.{◌↔◌, inl, inr}
+use mathlib.Core.Bool.{Bool, ◌&&◌}
+use mathlib.Core.Logic.{◌↔◌}
 use mathlib.Core.List.{List}
-use lib.Dec.{T, ltb, eqb, ltb→lt, lt→ltb, eqb→eq}
-use lib.ListN.{length, get_or, get_or-eq_default}
-use borrow.Author.Tests.{lt-ltb, le-ltb, eq-eqb, ne_eqb}
+use lib.Dec.{T, ltb}
+use lib.ListN.{length, get_or}
+use Rattle.std.proofs.lemmas.Bool.Decides.{nat_tests}
 use Rattle.plan.specs.declared.Record.{Record}
 use Rattle.plan.specs.declared.Place.{Place}
 use Rattle.plan.specs.Tree.{Forest, count, sizes}
@@ -17,52 +16,15 @@ use Rattle.plan.specs.Table.{Table, table, sound}
 use Rattle.plan.specs.Change.{open_place}
 use Rattle.plan.specs.Open.{QuickPlace}
 use Rattle.plan.specs.Paint.{Painted, old, plan}
-use Rattle.plan.specs.Records.{is_insert, is_rename, located}
-use Rattle.plan.specs.Way.{old_pre, removes_rows, goes_on_at, place_of}
-use Rattle.plan.proofs.Kit.{true_of, false_of, T-or, T_and, and_T, or_left, or_right, eq→eqb, by_side, cond_elim}
+use Rattle.plan.specs.Records.{is_insert}
+use Rattle.plan.specs.Way.{old_pre, goes_on_at, place_of}
 use Rattle.plan.proofs.Rows.{below_fits, size-at}
 use Rattle.plan.proofs.Planned.{plan-sizes, plan-dists, plan-length}
 use Rattle.plan.proofs.OpenPlaces.{quick_exactly}
-use Rattle.table.proofs.Parents.{sound_lengths}
-use Rattle.judge_record.specs.Trial.{trial, quick_place, open_for, SoundRows, RightPlace}
+use Rattle.table.specs.Shape.{Shaped}
+use Rattle.table.proofs.Parents.{shape_lengths}
+use Rattle.judge_record.specs.Trial.{quick_place, open_for}
 use Rattle.judge_record.specs.Way.{EndsLow}
-
--- two tests that tell the same are equal
-pub same_test : (x y : Bool) → T x ↔ T y → x ≡ y
-same_test x true h = true_of x (h.1 tt)
-same_test x false h = false_of x h.0
-
-module _ (dist size : List ℕ) (p q : ℕ) where
-  abbrev q_end : ℕ
-  q_end = q + get_or size q 0
-
-  -- ---- the test in constant time
-  pub quick_end : p ≡ q_end → quick_place dist size p q ≡ true
-  quick_end h = rw (eq-eqb p q_end h)
-
-  pub quick_past : (p ≡ q_end → ⊥) → length size ≤ p → quick_place dist size p q ≡ false
-  quick_past h l = rw (ne_eqb p q_end h, le-ltb p (length size) l)
-
-  pub quick_other : (p ≡ q_end → ⊥) → p < length size → (q + get_or dist p 0 ≡ p → ⊥) → quick_place dist size p q ≡ false
-  quick_other h l k = rw (ne_eqb p q_end h, lt-ltb p (length size) l, ne_eqb (q + get_or dist p 0) p k)
-
-  pub quick_child : (p ≡ q_end → ⊥) → p < length size → q + get_or dist p 0 ≡ p → quick_place dist size p q ≡ true
-  quick_child h l k = rw (ne_eqb p q_end h, lt-ltb p (length size) l, eq-eqb (q + get_or dist p 0) p k)
-
-  quick_told : (value : List ℕ) → T (quick_place dist size p q) ↔ QuickPlace (table dist size value) p q
-  quick_told value = (
-    T-or (eqb p q_end) (ltb p (length size) && eqb (q + get_or dist p 0) p) (λ t. inl (eqb→eq p q_end t))
-        (λ t.
-        let w = T_and (ltb p (length size)) (eqb (q + get_or dist p 0) p) t in
-        inr (ltb→lt p (length size) w.0, eqb→eq (q + get_or dist p 0) p w.1)),
-    tell,
-  )
-    where
-      tell : QuickPlace (table dist size value) p q → T (quick_place dist size p q)
-      tell (inl e) = or_left (eqb p q_end) _ (eq→eqb p q_end e)
-      tell (inr c) =
-          or_right (eqb p q_end) (ltb p (length size) && eqb (q + get_or dist p 0) p)
-          (and_T (ltb p (length size)) _ (lt→ltb p (length size) c.0) (eq→eqb (q + get_or dist p 0) p c.1))
 
 -- ---- on a sound table
 module _ (dist size value : List ℕ) (h : T (sound (table dist size value))) where
@@ -78,33 +40,23 @@ module _ (dist size value : List ℕ) (h : T (sound (table dist size value))) wh
   pub sizes_are : sizes f ≡ size
   sizes_are = plan-sizes old (table dist size value) h
 
-  -- a row and its rows end within the table, which has few
+  -- a row and its rows end within the table
   pub ends_low : (p : ℕ) → p < n → p + get_or size p 0 ≤ n
   ends_low p l =
       let m : p < count f = omega (arith, rows_are) in
-      omega (
-        arith,
-        rows_are,
-        size-at f p m,
-        below_fits f p m,
-        ap (λ (s : List ℕ). get_or s p 0) sizes_are,
-      )
+      omega (arith, rows_are, size-at f p m, below_fits f p m, ap (λ (s : List ℕ). get_or s p 0) sizes_are)
 
-  pub rows-low : n ≤ 65535
-  rows-low = (sound_lengths (table dist size value) h).few
-
+  -- on it the test in constant time finds the open places
   quick_open : (p q : ℕ) → q < n → open_place f p q ≡ quick_place dist size p q
   quick_open p q l =
       let w : T (open_place f p q) ↔ QuickPlace (table dist size value) p q =
       subst (λ (t : Table). T (open_place f p q) ↔ QuickPlace t p q)
       (λ i. table (plan-dists old (table dist size value) h i) (sizes_are i) value)
       (quick_exactly f value q (omega (arith, rows_are)) p) in
-      let v = quick_told dist size p q value in
-      same_test (open_place f p q) (quick_place dist size p q) ((λ t. v.1 (w.0 t)), (λ t. w.1 (v.0 t)))
+      grind (arith, nat_tests)
 
   insert-place : (p q : ℕ) → (ltb q n && open_place f p q) ≡ (ltb q n && quick_place dist size p q)
-  insert-place p q =
-      by_side q n (λ l. ap (λ (b : Bool). ltb q n && b) (quick_open p q l)) (λ l. rw (le-ltb q n l))
+  insert-place p q = grind (arith, nat_tests, quick_open)
 
   -- what is read is what the record asks
   pub read_place : (r : Record) (p : Place) → p.rows ≡ n → p.end ≡ old_pre (goes_on_at size r)
@@ -114,82 +66,8 @@ module _ (dist size value : List ℕ) (h : T (sound (table dist size value))) wh
       let there = c ∙ ap (λ (x : Bool). is_insert r && x) (sym (insert-place r.location r.parent)) in
       rw (rows_are, sizes_are) (λ k. record { rows = a k; end = b k; opens = there k })
 
--- the columns are equally long, and a record's rows end at a row number
-pub rows-even : (dist size : List ℕ) → SoundRows dist size → length dist ≡ length size
-rows-even dist size h = (sound_lengths (table dist size h.value) h.is-sound).dist
-
-pub rows_few : (dist size : List ℕ) → SoundRows dist size → length size ≤ 65535
-rows_few dist size h = rows-low dist size h.value h.is-sound
-
-pub row_ends : (dist size : List ℕ) (r : Record) → SoundRows dist size → r.location < length size → EndsLow size r
+-- a record's rows end at a row number
+pub row_ends : (dist size : List ℕ) (r : Record) → Shaped dist size → r.location < length size → EndsLow size r
 row_ends dist size r h l =
-    record {
-      at_row = λ w. l;
-      low = λ w.
-          omega (arith, ends_low dist size h.value h.is-sound r.location l, rows_few dist size h);
-    }
-
--- where the location is no row, the rows go on there
-pub no_row-ends : (size : List ℕ) (r : Record) → length size ≤ r.location
-    → old_pre r.location ≡ old_pre (goes_on_at size r)
-no_row-ends size r l =
-    let z : r.location + 0 ≡ r.location = omega arith in
-    cond_elim (λ (x : ℕ). old_pre r.location ≡ old_pre (r.location + x)) (removes_rows r)
-    (get_or size r.location 0) 0 (λ e. rw (get_or-eq_default size 0 l, z)) (λ e. rw z)
-
--- ---- an insert's open place
-module _ (dist size : List ℕ) (r : Record) where
-  pub no_insert : (r.kind ≡ 2 → ⊥) → open_for dist size r ≡ false
-  no_insert k = rw (ne_eqb r.kind 2 k)
-
-  pub no_parent : r.kind ≡ 2 → length size ≤ r.parent → open_for dist size r ≡ false
-  no_parent k l = rw (eq-eqb r.kind 2 k, le-ltb r.parent (length size) l)
-
-  pub under_parent : (p q : ℕ) → r.kind ≡ 2 → p ≡ r.location → q ≡ r.parent → q < length size
-      → quick_place dist size p q ≡ open_for dist size r
-  under_parent p q k e w l =
-      rw (eq-eqb r.kind 2 k, ← w, ← e, lt-ltb q (length size) l)
-
--- ---- test 5, by what the record finds
--- test 5 without the tree
-abbrev placed : Place → Record → Bool
-placed p r =
-    cond (is_insert r) p.opens (ltb r.location p.rows && (is_rename r || ltb 0 r.location))
-
-placed_located : (f : Forest Painted) (r : Record) → located f r ≡ placed (place_of f r) r
-unfolding located place_of
-placed_located f r =
-    cond_elim (λ (x : Bool). x ≡ placed (place_of f r) r) (is_insert r) _ _ (λ e. rw e) (λ e. rw e)
-
-module _ (p : Place) (r : Record) where
-  pub right-place : (m : Bool) → placed p r ≡ m → RightPlace p r (trial m 5)
-  right-place m e f h = rw (placed_located f r, ← h, e)
-
-  pub inserted : (m : Bool) → r.kind ≡ 2 → p.opens ≡ m → placed p r ≡ m
-  inserted m k h = rw (eq-eqb r.kind 2 k) h
-
-  pub past-rows : (r.kind ≡ 2 → ⊥) → p.rows ≤ r.location → placed p r ≡ false
-  past-rows k l = rw (ne_eqb r.kind 2 k, le-ltb r.location p.rows l)
-
-  pub renamed-row : (r.kind ≡ 2 → ⊥) → r.location < p.rows → r.kind ≡ 3 → placed p r ≡ true
-  renamed-row k l m = rw (ne_eqb r.kind 2 k, lt-ltb r.location p.rows l, eq-eqb r.kind 3 m)
-
-  pub root_stays : (r.kind ≡ 2 → ⊥) → r.location < p.rows → (r.kind ≡ 3 → ⊥) → r.location ≡ 0
-      → placed p r ≡ false
-  root_stays k l m z =
-      rw (
-        ne_eqb r.kind 2 k,
-        lt-ltb r.location p.rows l,
-        ne_eqb r.kind 3 m,
-        le-ltb 0 r.location (omega arith),
-      )
-
-  pub other_row : (r.kind ≡ 2 → ⊥) → r.location < p.rows → (r.kind ≡ 3 → ⊥) → (r.location ≡ 0 → ⊥)
-      → placed p r ≡ true
-  other_row k l m z =
-      rw (
-        ne_eqb r.kind 2 k,
-        lt-ltb r.location p.rows l,
-        ne_eqb r.kind 3 m,
-        lt-ltb 0 r.location (omega arith),
-      )
+    let low : r.location + get_or size r.location 0 ≤ length size = ends_low dist size h.value h.is r.location l in
+    record { at_row = λ w. l; low = λ w. omega (arith, shape_lengths dist size h) }

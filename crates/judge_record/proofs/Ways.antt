@@ -4,40 +4,37 @@
 use Prim.Native.Nat.{ℕ, suc, ◌+◌, ◌-◌, ◌*◌, ◌≤◌, ◌<◌}
 use native.Mathlib.Omega.{arith}
 use mathlib.Core.Path.{◌≡◌, refl, sym, ap, ◌∙◌, subst}
-use mathlib.Core.Bool.{true, false, not, cond, ◌&&◌}
+use mathlib.Core.Bool.{true, false, cond}
 use mathlib.Core.List.{List, [], ◌∷◌, ◌++◌}
-use lib.Dec.{T, leb, ltb, leb→le, ltb→lt, T_not, eqb→eq}
+use lib.Dec.{T}
 use lib.ListN.{length, get_or, drop, length-drop, length-append}
 use lib.Seq.{length-take-le, drop-drop, drop_at, get_or-drop}
-use borrow.Author.Tests.{ne_eqb}
+use Rattle.std.proofs.lemmas.Bool.Decides.{nat_tests}
 use Rattle.plan.specs.declared.Record.{Record}
 use Rattle.std.specs.Prelude.{Option, Some, None}
 use Rattle.plan.specs.declared.Stand.{Stand}
 use Rattle.plan.specs.declared.Meeting.{Meeting}
 use Rattle.plan.specs.declared.Meeting.TheVariants.{Vain, Renamed, Here}
-use Rattle.plan.specs.Tree
 use Rattle.plan.specs.Tree.{Forest, count}
 use Rattle.plan.specs.Table.{Table, even, sound, run}
 use Rattle.plan.specs.Paint.{Origin, old, new, Painted, plan, origins}
-use Rattle.plan.specs.Records.{is_delete, is_insert, is_rename, is_replace, changes, known, located, runs}
+use Rattle.plan.specs.Records.{is_rename, changes, known, located, runs}
 use Rattle.plan.specs.Way.{old_pre, has_run, removes_rows, vain, brought, taken, taken_from, goes_on_at, stand, start, meeting}
 use Rattle.plan.specs.Call.{result, most_records}
 use Rattle.plan.specs.Mapping.{fate, origin_at}
-use Rattle.plan.proofs.Kit.{T_of, T_and, T-or, cond_elim}
-use Rattle.plan.proofs.Columns.{length-sizes}
-use Rattle.plan.proofs.Rows.{below_fits, size-at}
+use Rattle.plan.proofs.Kit.{T_of, cond_elim}
 use Rattle.plan.proofs.Tests.{even_of}
 use Rattle.plan.proofs.Fits.{changes_read, fits}
 use Rattle.plan.proofs.Tested.{PassAll, all_located, all_ordered}
 use Rattle.plan.proofs.Planned.{plan-sizes, plan-length}
 use Rattle.table.proofs.Parents.{sound_lengths}
-use Rattle.plan.proofs.Sound.{sound-tree}
 use Rattle.plan.proofs.Trimmed.{trimmed, trimmed_kept}
 use Rattle.plan.proofs.Merge.{chain_most}
 use Rattle.plan.proofs.Mapping.{rows_of, track, length-rows, length-origins}
 use Rattle.plan.proofs.Origins.{Fair, kept_of, kept_follow, origins-result}
 use Rattle.plan.proofs.AtRecord.{Left, Goes, still_to_come, lost-left, kept-ahead, renamed-goes, renamed-come, other_goes, other-come, last-come}
 use Rattle.plan.proofs.Following.{spliced, fate-behind}
+use Rattle.judge_record.proofs.Places.{ends_low as rows_inside}
 use Rattle.judge_record.specs.Way.{EndsLow, Meets, behind, stands}
 
 -- a list that passes tests 2 to 8, on even insertions
@@ -50,70 +47,37 @@ pub record Passes (t i : Table) (l : List Record) : Type 0 where
 -- ---- a record that passed
 -- a sound table has few rows, and so has a run
 pub rows_few : (t : Table) → T (sound t) → length t.size ≤ 65535
-rows_few t h =
-    let w = sound-tree t h in
-    omega (
-      arith,
-      w.few,
-      ap (λ (u : Table). length u.size) w.is-table,
-      length-sizes
-          (Tree.tree w.root w.kids Tree.none),
-    )
+rows_few t h = (sound_lengths t h).few
 
 run_short : (i : Table) (r : Record) → T (runs i r) → has_run r ≡ true → get_or i.size r.from 0 ≤ 65535
 unfolding runs run
 run_short i r h w =
     let f : ℕ = r.from in
-    let m : ℕ = length i.size in
     let n : ℕ = get_or i.size f 0 in
-    T-or (not (has_run r)) _ (λ v. absurd (T_not (has_run r) v (T_of (has_run r) w)))
-    (λ v.
-    let a = T_and (ltb f m) (leb (f + n) m && sound (run i f)) v in
-    let b = T_and (leb (f + n) m) (sound (run i f)) a.1 in
-    let z = leb→le (f + n) m b.0 in
-    let k = length-take-le n (drop f i.size) (omega (arith, length-drop f i.size)) in
-    omega (arith, rows_few (run i f) b.1, k)) h
+    let rows : List ℕ = drop f i.size in
+    grind (arith, nat_tests, rows_few (run i f), length-take-le n rows, length-drop f i.size)
 
 pub run-few : (i : Table) (r : Record) → T (runs i r) → brought i.size r ≤ 65535
-run-few i r h =
-    cond_elim (λ (n : ℕ). n ≤ 65535) (has_run r) (get_or i.size r.from 0) 0 (λ w. run_short i r h w)
-    (λ w. omega arith)
+run-few i r h = let z = run_short i r h in grind (arith, nat_tests)
 
 -- the row of a record that takes rows away
 row_inside : {A : Type 0} (f : Forest A) (r : Record) → T (located f r) → T (removes_rows r) → r.location < count f
 unfolding located
-row_inside f r t h =
-    let other : is_insert r ≡ false =
-    ne_eqb r.kind 2
-    (λ e.
-    T-or (is_delete r) (is_replace r) (λ d. omega (arith, eqb→eq r.kind 1 d))
-    (λ d. omega (arith, eqb→eq r.kind 4 d)) h) in
-    ltb→lt r.location (count f) (T_and (ltb r.location (count f)) _ (rw other at t)).0
+row_inside f r t h = grind (arith, nat_tests)
 
 -- the rows that it takes away lie in the table
 pub ends_low : (t : Table) (r : Record) → T (sound t) → T (located (plan old t) r) → EndsLow t.size r
 ends_low t r s h =
-    let n = plan-length old t s in
+    let inside : T (removes_rows r) → r.location < length t.size =
+    λ w. omega (arith, plan-length old t s, row_inside (plan old t) r h w) in
     record {
-      at_row = λ w. omega (arith, n, row_inside (plan old t) r h w);
-      low = λ w.
-          let p : ℕ = r.location in
-          let inside = row_inside (plan old t) r h w in
-          omega (
-            arith,
-            n,
-            rows_few t s,
-            ap (λ (z : List ℕ). get_or z p 0) (plan-sizes old t s),
-            size-at (plan old t) p inside,
-            below_fits (plan old t) p inside,
-          );
+      at_row = inside;
+      low = λ w. omega (arith, rows_few t s, rows_inside t.dist t.size t.value s r.location (inside w));
     }
 
 -- the rows that it takes away end where the rows go on
 end_is : (size : List ℕ) (r : Record) → taken_from r + taken size r ≡ cond (removes_rows r) (goes_on_at size r) 0
-end_is size r =
-    cond_elim (λ (n : ℕ). taken_from r + taken size r ≡ n) (removes_rows r) (goes_on_at size r) 0
-    (λ e. rw e) (λ e. rw e)
+end_is size r = grind (arith, nat_tests)
 
 spliced_long : (q at j n : ℕ) (os : List Origin) → length (spliced q at j n os) ≡ (at - q) + n + length os
 spliced_long q at j n os =

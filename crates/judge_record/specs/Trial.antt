@@ -1,25 +1,26 @@
 -- What the tests of one record answer.
 -- Assumes nothing.
-use Rattle.std.specs.Prelude.{ℕ, zero, suc, ◌+◌, ◌≡◌, Bool, true, false, ◌&&◌, ◌||◌, List, T, leb, ltb, eqb, length, get_or, Option, Some, None}
+use Rattle.std.specs.Prelude.{ℕ, ⊤, ◌+◌, ◌≡◌, Bool, true, false, ◌&&◌, ◌||◌, List, T, leb, ltb, eqb, length, get_or, Option, Some, None, Result, Ok, Err}
 use Rattle.plan.specs.declared.Record.{Record}
 use Rattle.plan.specs.declared.Place.{Place}
+use Rattle.plan.specs.declared.refusal.Fault.{Fault}
+use Rattle.plan.specs.declared.refusal.Fault.TheVariants.{Location}
+use Rattle.plan.specs.Told.{fault}
 use Rattle.plan.specs.Table.{Table, table, sound, run}
 use Rattle.plan.specs.Tree.{Forest}
 use Rattle.plan.specs.Paint.{Painted, old, plan}
 use Rattle.plan.specs.Way.{place_of}
 use Rattle.plan.specs.Records.{is_insert, is_replace, located, runs, failing}
-use Rattle.judge_record.specs.declared.Trial.{Trial}
-use Rattle.judge_record.specs.declared.Trial.TheVariants.{Passed, Failed}
 
--- the answer of a test that passes or not, and has this number
-abbrev pub trial : Bool → ℕ → Trial
-trial true number = Passed
-trial false number = Failed number
+-- the answer of a test that passes or not, and finds this fault where it does not
+abbrev pub trial : Bool → Fault → Result ⊤ Fault
+trial true f = Ok tt
+trial false f = Err f
 
--- the answer of several tests, of which number is the first that fails, or 0
-abbrev pub outcome : ℕ → Trial
-outcome zero = Passed
-outcome (suc number) = Failed (suc number)
+-- an answer as the number of the test that found the fault, or 0
+abbrev pub fault_told : Result ⊤ Fault → ℕ
+fault_told (Ok x) = 0
+fault_told (Err f) = fault f
 
 -- the test of an open place in constant time: q ends at p, or row p is a child of q
 abbrev pub quick_place : (dist size : List ℕ) → (p q : ℕ) → Bool
@@ -30,11 +31,6 @@ quick_place dist size p q =
 abbrev pub open_for : (dist size : List ℕ) → Record → Bool
 open_for dist size r =
     is_insert r && (ltb r.parent (length size) && quick_place dist size r.location r.parent)
-
--- with some values these are a sound table's columns
-pub record SoundRows (dist size : List ℕ) : Type 0 where
-  pub value : List ℕ
-  pub is-sound : T (sound (table dist size value))
 
 -- p is what the record asks of the tree, whatever values make the distances and sizes a sound table
 pub record Faces (dist size : List ℕ) (r : Record) (p : Place) : Type 0 where
@@ -61,9 +57,9 @@ pub record RunTested (i : Table) (b : Option Record) : Type 0 where
   pub passed : (p : Record) → b ≡ Some p → T (runs i p)
 
 -- test 5 is answered right, of every tree in which the record finds this
-abbrev pub RightPlace : Place → Record → Trial → Type 0
-RightPlace p r t = (f : Forest Painted) → p ≡ place_of f r → t ≡ trial (located f r) 5
+abbrev pub RightPlace : Place → Record → Result ⊤ Fault → Type 0
+RightPlace p r t = (f : Forest Painted) → p ≡ place_of f r → t ≡ trial (located f r) Location
 
 -- tests 4 to 8 are, with the insertions i and what stands before r
-abbrev pub RightTrial : Place → Table → Option Record → Record → Trial → Type 0
-RightTrial p i before r t = (f : Forest Painted) → p ≡ place_of f r → t ≡ outcome (failing f i before r)
+abbrev pub RightTrial : Place → Table → Option Record → Record → Result ⊤ Fault → Type 0
+RightTrial p i before r t = (f : Forest Painted) → p ≡ place_of f r → fault_told t ≡ failing f i before r

@@ -3,13 +3,16 @@
 #![tactic(auto)]
 
 ghost use Rattle.std.specs.Prelude.{◌≡◌};
-ghost use Rattle.plan.specs.Table.{table};
+ghost use Rattle.plan.specs.declared.refusal.Fault.TheVariants.{Kind};
+ghost use Rattle.plan.specs.Table.{read};
 ghost use Rattle.plan.specs.Records.{known};
 ghost use Rattle.judge_record.specs.Trial.{trial, Even, RunTested, RightTrial};
 
 use crate::order::{test_alone, test_order};
 use crate::place::test_location;
 use crate::run::test_run;
+use plan::lent::Table;
+use plan::refusal::Fault;
 use plan::{Place, Record};
 
 pub mod order;
@@ -17,55 +20,26 @@ pub mod place;
 pub mod run;
 pub mod way;
 
-// What a test of a record answers: it passes, or the number of the test that it fails.
-#[derive(Clone, Copy)]
-pub enum Trial {
-    Passed,
-    Failed(u32),
-}
-
 // Test 4: the kind is one of the four.
-pub fn test_kind(r: Record) -> Trial
-    ensures { result ≡ trial (known r) 4 }
+#[tactic(auto, unfolding(plan::specs::Records::known))]
+pub fn test_kind(r: Record) -> Result<(), Fault>
+    ensures { result ≡ trial (known r) Kind }
 {
-    if r.kind < Record::DELETE {
-        return Trial::Failed(4);
+    match r.kind {
+        Record::DELETE..=Record::REPLACE => Ok(()),
+        _ => Err(Fault::Kind),
     }
-    if r.kind > Record::REPLACE {
-        return Trial::Failed(4);
-    }
-    Trial::Passed
 }
 
 // Tests 4 to 8 of a record, in their order: the first that fails decides.
-pub fn tried(
-    place: Place,
-    idist: &[u32],
-    isize: &[u32],
-    ivalue: &[u32],
-    before: Option<Record>,
-    r: Record,
-) -> Trial
-    requires { let i = table idist.now isize.now ivalue.now in
-        Even i × RunTested i before }
-    ensures { let i = table idist.now isize.now ivalue.now in
-        RightTrial place i before r result }
+#[tactic(auto, unfolding(plan::specs::Records::failing))]
+pub fn tried(place: Place, i: Table, before: Option<Record>, r: Record) -> Result<(), Fault>
+    requires { Even (read i) × RunTested (read i) before }
+    ensures { RightTrial place (read i.entry) before r result }
 {
-    let kind = test_kind(r);
-    let Trial::Passed = kind else {
-        return kind;
-    };
-    let location = test_location(place, r);
-    let Trial::Passed = location else {
-        return location;
-    };
-    let run = test_run(idist, isize, ivalue, before, r);
-    let Trial::Passed = run else {
-        return run;
-    };
-    let order = test_order(before, r);
-    let Trial::Passed = order else {
-        return order;
-    };
+    test_kind(r)?;
+    test_location(place, r)?;
+    test_run(i, before, r)?;
+    test_order(before, r)?;
     test_alone(before, r)
 }

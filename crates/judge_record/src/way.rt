@@ -1,4 +1,5 @@
-// The way along a list: what one record does to the rows, where the last record left them.
+// The way along a list: what one record does to the rows, where the last record left them. Of the table and of the
+// insertions only sizes count here, so that column is all that is taken.
 ghost use Rattle.std.specs.Prelude.{◌≡◌, ◌<◌, T, length};
 ghost use Rattle.plan.specs.Way.{has_run, removes_rows, vain, brought, old_pre, goes_on_at, meeting};
 ghost use Rattle.judge_record.specs.Way.{EndsLow, Meets, behind};
@@ -10,13 +11,7 @@ use plan::{Meeting, NewPre, OldPre, Record, Stand, wide};
 pub fn removes_rows(r: Record) -> bool
     ensures { result ≡ removes_rows r }
 {
-    if r.kind == Record::DELETE {
-        return true;
-    }
-    if r.kind != Record::REPLACE {
-        return false;
-    }
-    true
+    r.kind == Record::DELETE || r.kind == Record::REPLACE
 }
 
 // Is it vain, where the old rows from first up to end are taken away: an insert under one of them, or another change of
@@ -25,21 +20,10 @@ fn is_vain(first: OldPre, end: OldPre, r: Record) -> bool
     ensures { result ≡ vain first.0 end.0 r }
 {
     if r.kind == Record::INSERT {
-        if r.parent < first.0 {
-            return false;
-        }
-        if r.parent >= end.0 {
-            return false;
-        }
-        return true;
+        first.0 <= r.parent && r.parent < end.0
+    } else {
+        first.0 < r.location && r.location < end.0
     }
-    if r.location <= first.0 {
-        return false;
-    }
-    if r.location >= end.0 {
-        return false;
-    }
-    true
 }
 
 // How many rows its run has; none without a run.
@@ -47,11 +31,7 @@ pub fn run_rows(isize: &[u32], r: Record) -> u32
     requires { T (has_run r) → r.from < length isize.now }
     ensures { result ≡ brought isize.now r }
 {
-    if !has_run(r) {
-        return 0;
-    }
-    let f = wide(r.from);
-    isize[f]
+    if has_run(r) { isize[wide(r.from)] } else { 0 }
 }
 
 // The old row at which the rows go on behind it.
@@ -60,10 +40,8 @@ pub fn row_behind(size: &[u32], r: Record) -> OldPre
     ensures { result ≡ old_pre (goes_on_at size.now r) }
 {
     let p = r.location;
-    if !removes_rows(r) {
-        return OldPre(p);
-    }
-    OldPre(p + size[p as usize])
+    let rows = if removes_rows(r) { size[wide(p)] } else { 0 };
+    OldPre(p + rows)
 }
 
 // The next record, with so many rows that come and the old row at which the rows go on behind it.
@@ -71,43 +49,29 @@ pub fn meet(s: Stand, r: Record, end: OldPre, run: u32) -> Meeting
     requires { Meets s r run }
     ensures { result ≡ meeting s r end.0 run }
 {
-    let row = s.row;
-    let out = s.out;
     if is_vain(s.first, s.end, r) {
         return Meeting::Vain;
     }
     if r.kind == Record::RENAME {
         return Meeting::Renamed(Stand {
-            row: row,
-            out: out,
             first: OldPre(0),
             end: OldPre(0),
+            ..s
         });
     }
     let p = r.location;
-    let next = NewPre(out.0 + (p - row.0) + run);
-    if !removes_rows(r) {
-        return Meeting::Here(
-            OldPre(p),
-            run,
-            Stand {
-                row: end,
-                out: next,
-                first: OldPre(0),
-                end: OldPre(0),
-            },
-        );
-    }
-    Meeting::Here(
-        OldPre(p),
-        run,
-        Stand {
-            row: end,
-            out: next,
-            first: OldPre(p),
-            end: end,
-        },
-    )
+    let (first, last) = if removes_rows(r) {
+        (OldPre(p), end)
+    } else {
+        (OldPre(0), OldPre(0))
+    };
+    let next = Stand {
+        row: end,
+        out: NewPre(s.out.0 + (p - s.row.0) + run),
+        first,
+        end: last,
+    };
+    Meeting::Here(OldPre(p), run, next)
 }
 
 // Where the rows go on behind the record.
@@ -115,10 +79,8 @@ pub fn onward(s: Stand, r: Record, end: OldPre, run: u32) -> Stand
     requires { Meets s r run }
     ensures { result ≡ behind s (meeting s r end.0 run) }
 {
-    let m = meet(s, r, end, run);
-    match m {
+    match meet(s, r, end, run) {
         Meeting::Vain => s,
-        Meeting::Renamed(next) => next,
-        Meeting::Here(_, _, next) => next,
+        Meeting::Renamed(next) | Meeting::Here(_, _, next) => next,
     }
 }

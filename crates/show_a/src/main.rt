@@ -1,23 +1,11 @@
 // Case A of the worked plan: prints the new table as CSV, a line a row: row number, dist, size, value.
 #![tactic(auto)]
 
-use out::{number, text, worked};
+use out::worked;
 use plan::Record;
 use std::io;
 
-// A row of the new table, on a line of its own.
-fn line(rt: &impl Print, row: u64, dist: u32, size: u32, value: u32) -> io::Result<()> {
-    number(rt, row)?;
-    text(rt, b",")?;
-    number(rt, dist as u64)?;
-    text(rt, b",")?;
-    number(rt, size as u64)?;
-    text(rt, b",")?;
-    number(rt, value as u64)?;
-    text(rt, b"\n")
-}
-
-// As many rows as the call counted.
+// As many rows of the new table as the call counted, each on a line of its own.
 fn rows(
     rt: &impl Print,
     dist: &[u32; 8],
@@ -25,12 +13,8 @@ fn rows(
     value: &[u32; 8],
     count: u64,
 ) -> io::Result<()> {
-    let mut r: usize = 0;
-    while r < 8 {
-        if (r as u64) < count {
-            line(rt, r as u64, dist[r], size[r], value[r])?;
-        }
-        r += 1;
+    for ((r, d), (s, v)) in (0..count).zip(dist).zip(size.iter().zip(value)) {
+        println!(rt; "{r},{d},{s},{v}")?;
     }
     Ok(())
 }

@@ -7,13 +7,6 @@ ghost use Rattle.table.specs.Shape.{Right};
 use crate::rooted;
 use plan::wide;
 
-// What the climb finds: the shape of a tree, or the first row that is wrong.
-#[derive(Clone, Copy)]
-pub enum Shape {
-    Tree,
-    BadAt(usize),
-}
-
 // The row after the last of those in row x.
 fn end(size: &[u32], x: usize) -> usize
     requires { x < length size.now }
@@ -22,7 +15,8 @@ fn end(size: &[u32], x: usize) -> usize
     x + wide(size[x])
 }
 
-// The parent of row r, from a row that does not end before r: up, as long as the row ends at r.
+// The parent of row r, from a row that does not end before r: up, as long as the row ends at r. Each turn goes to the
+// parent, and no index is counted.
 fn up(dist: &[u32], size: &[u32], r: usize, start: usize) -> usize
     requires { Ready dist.now size.now r start }
     ensures { Inner (cell size.now) r result }
@@ -39,40 +33,32 @@ fn fits(dist: &[u32], size: &[u32], r: usize, x: usize) -> bool
     requires { (length dist.now ≡ length size.now) × (r < length size.now) × (x < r) }
     ensures { Says result (Fine (cell size.now) (cell dist.now) r x) }
 {
-    if wide(dist[r]) != r - x {
-        return false;
-    }
-    if wide(size[r]) == 0 {
-        return false;
-    }
-    end(size, r) <= end(size, x)
+    wide(dist[r]) == r - x && size[r] != 0 && end(size, r) <= end(size, x)
 }
 
 // The check of every row but the root's.
-fn rows(dist: &[u32], size: &[u32]) -> Shape
+fn rows(dist: &[u32], size: &[u32]) -> Option<usize>
     requires { Rooted dist.now size.now }
     ensures { Right result dist.now size.now }
 {
     let mut x = 0;
-    let mut r = 1;
-    while r < size.len() {
+    for r in 1..size.len() {
         x = up(dist, size, r, x);
-        if fits(dist, size, r, x) {
-            x = r;
-            r += 1;
-        } else {
-            return Shape::BadAt(r);
+        if !fits(dist, size, r, x) {
+            return Some(r);
         }
+        x = r;
     }
-    Shape::Tree
+    None
 }
 
 // The first row at which no sound table goes on; row 0 also where the lengths are wrong.
-pub fn first_bad(dist: &[u32], size: &[u32]) -> Shape
+pub fn first_bad(dist: &[u32], size: &[u32]) -> Option<usize>
     ensures { Right result dist.now size.now }
 {
     if rooted(dist, size) {
-        return rows(dist, size);
+        rows(dist, size)
+    } else {
+        Some(0)
     }
-    Shape::BadAt(0)
 }

@@ -3,11 +3,14 @@
 #![tactic(auto)]
 
 ghost use Rattle.std.specs.Prelude.{◌≡◌};
-ghost use Rattle.plan.specs.Table.{table, even};
+ghost use Rattle.plan.specs.Table.{even, read};
 ghost use Rattle.plan.specs.Call.{test};
+ghost use Rattle.plan.specs.Told.{even_told};
 ghost use Rattle.table.specs.Rows.{Rooted, Says};
 
-use plan::{Answer, Verdict, wide};
+use plan::lent::Table;
+use plan::refusal::Uneven;
+use plan::{Answer, wide};
 
 pub mod axes;
 pub mod climb;
@@ -15,17 +18,14 @@ pub mod sound;
 pub mod walk;
 
 // Test 1: three columns are equally long.
-pub fn test_even(dist: &[u32], size: &[u32], value: &[u32]) -> Verdict
-    ensures { result ≡ test (even (table dist.now size.now value.now)) 1 0 0 }
+pub fn test_even(t: Table) -> Result<(), Uneven>
+    ensures { even_told result ≡ test (even (read t.entry)) 1 0 0 }
 {
-    let n = size.len();
-    if dist.len() != n {
-        return Verdict::Failed(1, 0, 0);
+    let n = t.size.len();
+    if t.dist.len() != n || t.value.len() != n {
+        return Err(Uneven);
     }
-    if value.len() != n {
-        return Verdict::Failed(1, 0, 0);
-    }
-    Verdict::Passed
+    Ok(())
 }
 
 // Are the columns equally long, with 1 to 65,535 rows, and is row 0 the root of them all?
@@ -33,20 +33,5 @@ fn rooted(dist: &[u32], size: &[u32]) -> bool
     ensures { Says result (Rooted dist.now size.now) }
 {
     let n = size.len();
-    if dist.len() != n {
-        return false;
-    }
-    if n == 0 {
-        return false;
-    }
-    if n > Answer::MOST_ROWS {
-        return false;
-    }
-    if dist[0] != 1 {
-        return false;
-    }
-    if wide(size[0]) != n {
-        return false;
-    }
-    true
+    dist.len() == n && n != 0 && n <= Answer::MOST_ROWS && dist[0] == 1 && wide(size[0]) == n
 }

@@ -1,14 +1,16 @@
 // The soundness call, by the sum test: in linear time, with no stack and no array. The values are never read.
 ghost use Rattle.std.specs.Prelude.{◌≡◌};
-ghost use Rattle.plan.specs.Table.{table, sound as soundly};
+ghost use Rattle.plan.specs.Table.{read, sound as soundly};
 ghost use Rattle.plan.specs.Axes.{soundness as soundness_of};
 ghost use Rattle.plan.specs.Call.{test};
+ghost use Rattle.plan.specs.Told.{verdict_told, answer_told};
 ghost use Rattle.table.specs.Rows.{Rooted, Says};
 ghost use Rattle.table.specs.Shape.{Shaped};
 
 use crate::{rooted, test_even};
-use plan::{Answer, Verdict, wide};
-use std::num;
+use plan::lent::Table;
+use plan::refusal::Refusal;
+use plan::wide;
 
 // The sum test: each row fits into one before it, and distance times size add up to 1 + .. + n.
 // A sum d + s that wraps is let through: its product alone is more than that.
@@ -18,15 +20,14 @@ fn sums(dist: &[u32], size: &[u32]) -> bool
 {
     let n = size.len();
     let mut sum = n;
-    let mut r: u32 = 1;
-    while (r as usize) < n {
+    for r in 1..n as u32 {
         let d = dist[r as usize];
         let s = size[r as usize];
-        let q = num::wrapping_sub_u32(r, d);
+        let q = r.wrapping_sub(d);
         if q >= r {
             return false;
         }
-        if num::wrapping_add_u32(d, s) > size[q as usize] {
+        if d.wrapping_add(s) > size[q as usize] {
             return false;
         }
         let p = wide(d) * wide(s);
@@ -34,44 +35,33 @@ fn sums(dist: &[u32], size: &[u32]) -> bool
             return false;
         }
         sum += p;
-        r += 1;
     }
     sum == n * (n + 1) / 2
 }
 
 // Is it a sound table? Columns of different length are none.
-pub fn is_sound(dist: &[u32], size: &[u32], value: &[u32]) -> bool
-    ensures { result ≡ soundly (table dist.now size.now value.now) }
+pub fn is_sound(t: Table) -> bool
+    ensures { result ≡ soundly (read t.entry) }
 {
-    let Verdict::Passed = test_even(dist, size, value) else {
-        return false;
-    };
-    if rooted(dist, size) {
-        return sums(dist, size);
-    }
-    false
+    test_even(t).is_ok() && rooted(t.dist, t.size) && sums(t.dist, t.size)
 }
 
 // Test 2: the table is sound.
-pub fn test_sound(dist: &[u32], size: &[u32], value: &[u32]) -> Verdict
-    ensures { result ≡ test (soundly (table dist.now size.now value.now)) 2 0 0 }
+pub fn test_sound(t: Table) -> Result<(), Refusal>
+    ensures { verdict_told result ≡ test (soundly (read t.entry)) 2 0 0 }
 {
-    if is_sound(dist, size, value) {
-        Verdict::Passed
+    if is_sound(t) {
+        Ok(())
     } else {
-        Verdict::Failed(2, 0, 0)
+        Err(Refusal::Unsound)
     }
 }
 
 // The soundness call: tests 1 and 2; accepted it counts the rows.
-pub fn soundness(dist: &[u32], size: &[u32], value: &[u32]) -> Answer
-    ensures { result ≡ soundness_of (table dist.now size.now value.now) }
+pub fn soundness(t: Table) -> Result<u64, Refusal>
+    ensures { answer_told result ≡ soundness_of (read t.entry) }
 {
-    let Verdict::Passed = test_even(dist, size, value) else {
-        return Answer::refused(1, 0, 0);
-    };
-    let Verdict::Passed = test_sound(dist, size, value) else {
-        return Answer::refused(2, 0, 0);
-    };
-    Answer::accepted(size.len() as u64)
+    test_even(t)?;
+    test_sound(t)?;
+    Ok(t.size.len() as u64)
 }

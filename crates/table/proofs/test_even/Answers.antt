@@ -2,12 +2,15 @@
 use Rattle.plan.proofs.Verdicts.{passing, failing}
 use Rattle.plan.proofs.Tests.{even_of, uneven-dist, uneven-value}
 use Rattle.table.proofs.test_even.Goals as goal
+use Rattle.table.proofs.test_even.Goals.{then-t-n-via-then-t-n, then-t-n-via-else-t-n+then-t-n-2}
 
-pub returns-then-dist-n : goal.returns-then-dist-n
-returns-then-dist-n c = failing _ 1 0 0 (uneven-dist _ c.if-dist-n.true)
-
-pub returns-then-value-n : goal.returns-then-value-n
-returns-then-value-n c = failing _ 1 0 0 (uneven-value _ c.if-dist-n.false c.if-value-n.true)
+pub returns-then-t-n : goal.returns-then-t-n
+returns-then-t-n c =
+    failing _ 1 0 0
+    (elim c.then-t-n.branch [
+      | then-t-n-via-then-t-n w ↦ uneven-dist _ w.if-t-n.true
+      | then-t-n-via-else-t-n+then-t-n-2 w ↦ uneven-value _ w.if-t-n.false w.if-t-n-2.true
+    ])
 
 pub returns : goal.returns
-returns c = passing _ 1 0 0 (even_of _ c.if-dist-n.false c.if-value-n.false)
+returns c = passing _ 1 0 0 (even_of _ c.if-t-n.false c.if-t-n-2.false)

@@ -1,16 +1,12 @@
 -- `judge_record::place::place_of` meets its contract.
-use native.Mathlib.Omega.{arith}
 use mathlib.Core.Path.{refl}
-use Rattle.judge_record.proofs.Places.{rows_few, rows-even, read_place}
+use Rattle.judge_record.proofs.Places.{row_ends, read_place}
 use Rattle.judge_record.proofs.place.place_of.Goals as goal
 
-pub overflow_cast-result : goal.overflow_cast-result
-overflow_cast-result c =
-    omega (arith, rows_few c.args.dist.now c.args.size.now c.requires)
-
-pub is_open-requires : goal.is_open-requires
-is_open-requires c =
-    rows-even c.args.dist.now c.args.size.now c.requires
+pub end_of-requires : goal.end_of-requires
+end_of-requires c =
+    let a = c.args in
+    λ l. row_ends a.dist.now a.size.now a.r c.requires l
 
 pub returns : goal.returns
 returns c =

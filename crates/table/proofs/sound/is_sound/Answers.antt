@@ -1,21 +1,28 @@
 -- `table::sound::is_sound` meets its contract.
-use Rattle.plan.proofs.Verdicts.{passed-told, failed_told}
+use Rattle.std.proofs.Common.{sym, ◌∙◌, rules}
 use Rattle.plan.proofs.Tests.{even_lengths}
-use Rattle.table.proofs.Says.{says_true, says_false}
+use Rattle.table.proofs.Says.{says_false}
 use Rattle.table.proofs.Shapes.{shape_says, uneven-unsound, rootless_unsound}
+use Rattle.table.proofs.Told.{even_says}
 use Rattle.table.proofs.sound.is_sound.Goals as goal
-
-pub returns-in_default : goal.returns-in_default
-returns-in_default c =
-    uneven-unsound _ (failed_told _ 1 0 0 c.test_even.ensures c.in_default.is)
-
-pub sums-requires : goal.sums-requires
-sums-requires c = says_true _ _ c.if-rooted.true c.rooted.ensures
+use Rattle.table.proofs.sound.is_sound.Goals.{then-is_ok, else-is_ok}
 
 pub returns-then-rooted : goal.returns-then-rooted
 returns-then-rooted c =
-    let even = passed-told _ 1 0 0 c.test_even.ensures c.in-Passed.is in
-    shape_says _ _ _ _ (even_lengths _ even).1 c.sums.ensures
+    elim c.if-is_ok.branch [
+      | then-is_ok w ↦
+          shape_says _ _ _ _ (even_lengths _ (even_says _ _ c.test_even.ensures w.if-is_ok.ensures.value)).1
+          c.sums.ensures
+      | else-is_ok w ↦ search rules
+    ]
 
-pub returns : goal.returns
-returns c = rootless_unsound _ _ _ (says_false _ _ c.if-rooted.false c.rooted.ensures)
+pub returns-else-rooted : goal.returns-else-rooted
+returns-else-rooted c =
+    elim c.if-is_ok.branch [
+      | then-is_ok w ↦
+          c.if-rooted.false
+          ∙ rootless_unsound _ _ _ (says_false _ _ (sym w.value-is ∙ c.if-rooted.false) w.rooted.ensures)
+      | else-is_ok w ↦
+          c.if-rooted.false
+          ∙ uneven-unsound _ (even_says _ _ c.test_even.ensures w.if-is_ok.ensures.value)
+    ]

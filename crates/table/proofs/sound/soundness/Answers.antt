@@ -1,22 +1,27 @@
 -- `table::sound::soundness` meets its contract.
-use Rattle.std.proofs.Common.{sym, ◌∙◌}
+use Rattle.std.proofs.Common.{ℕ, length, refl, sym, ap, ◌∙◌}
+use Rattle.std.proofs.lemmas.Result.{err_from_is_err_and}
+use Rattle.plan.specs.declared.Verdict.{Verdict}
+use Rattle.plan.specs.Call.{answer}
 use Rattle.plan.proofs.Verdicts.{passed-told, failed_told}
-use Rattle.plan.proofs.Tests.{soundness-uneven, soundness-unsound, soundness-sound}
+use Rattle.plan.proofs.Tests.{soundness-uneven}
+use Rattle.table.proofs.Told.{answer_failed, soundness-even}
 use Rattle.table.proofs.sound.soundness.Goals as goal
 
-pub returns-in_default : goal.returns-in_default
-returns-in_default c =
-    let uneven = failed_told _ 1 0 0 c.test_even.ensures c.in_default.is in
-    c.refused.ensures ∙ sym (soundness-uneven _ uneven)
+pub returns-in_err-test_even : goal.returns-in_err-test_even
+returns-in_err-test_even c =
+    let p = err_from_is_err_and c.from_residual.result c.from_residual.ensures.1 in
+    rw (p.1, p.2) (sym (soundness-uneven _ (failed_told _ 1 0 0 c.in_err-test_even.ensures refl)))
 
-pub returns-in_default-test_sound : goal.returns-in_default-test_sound
-returns-in_default-test_sound c =
-    let even = passed-told _ 1 0 0 c.test_even.ensures c.in-Passed.is in
-    let unsound = failed_told _ 2 0 0 c.test_sound.ensures c.in_default-test_sound.is in
-    c.refused-in_default-test_sound.ensures ∙ sym (soundness-unsound _ even unsound)
+pub returns-in_err-test_sound : goal.returns-in_err-test_sound
+returns-in_err-test_sound c =
+    let p = err_from_is_err_and c.from_residual-in_err-test_sound.result c.from_residual-in_err-test_sound.ensures.1 in
+    rw (p.1, p.2)
+    (answer_failed _ _ _ c.in_err-test_sound.ensures
+    ∙ soundness-even _ (passed-told _ 1 0 0 c.in_ok-test_even.ensures refl))
 
 pub returns : goal.returns
 returns c =
-    let even = passed-told _ 1 0 0 c.test_even.ensures c.in-Passed.is in
-    let sound = passed-told _ 2 0 0 c.test_sound.ensures c.in-Passed-test_sound.is in
-    c.accepted.ensures ∙ sym (soundness-sound _ even sound)
+    let n : ℕ = length c.args.t.size.now in
+    ap (λ (v : Verdict). answer v n) c.in_ok-test_sound.ensures
+    ∙ soundness-even _ (passed-told _ 1 0 0 c.in_ok-test_even.ensures refl)

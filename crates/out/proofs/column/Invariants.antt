@@ -1,9 +1,0 @@
--- `out::column` reads within the column, and ends at its end.
-use Rattle.std.proofs.Common.{◌-◌, ◌≤◌, length}
-use Rattle.out.proofs.column.Given as goal
-
-abbrev pub invariant-loop-i : goal.invariant-loop-i
-invariant-loop-i g l = l.i ≤ length l.s
-
-abbrev pub decreases-loop-i : goal.decreases-loop-i
-decreases-loop-i g l = length l.s - l.i

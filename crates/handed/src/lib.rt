@@ -1,181 +1,170 @@
 // The answers as C gets them: structs of plain numbers. Fields that have nothing to say are 0.
+// Functions, and no `From`: that would have to stand in `plan`, which has the types; and two take a second argument.
 #![tactic(auto)]
 
 ghost use Rattle.std.specs.Prelude.{◌≡◌};
-ghost use Rattle.plan.specs.Axes.{told, started, walked};
+ghost use Rattle.plan.specs.Told.{reply_told, row_told, start_told, step_told, answer_told, became_told, was_told};
 ghost use Rattle.plan.specs.Handed.{row_of, part_of, walk_of, step_of, became_of, was_of};
 
+use plan::refusal::{Misfit, Refusal, RowRefusal};
 use plan::{
-    Became, Found, PlanBecame, PlanPart, PlanRow, PlanStep, PlanWalk, PlanWas, Start, Walk, Was,
+    Answer, Child, NewPre, PlanBecame, PlanPart, PlanRow, PlanStep, PlanWalk, PlanWas, Source, Span,
 };
 
-// What a call on a row answers.
-pub fn row_of(f: Found) -> PlanRow
-    ensures { result ≡ row_of (told f) }
+// A call on a list or on a table.
+pub fn answer_of(rows: Result<u64, Refusal>) -> Answer
+    ensures { result ≡ answer_told rows }
 {
-    match f {
-        Found::Row(row) => PlanRow {
-            number: 0,
-            place: 0,
+    match rows {
+        Ok(count) => Answer::accepted(count),
+        Err(e) => Answer::from(e),
+    }
+}
+
+// What a call on a row answers.
+pub fn row_of(found: Result<Option<usize>, RowRefusal>) -> PlanRow
+    ensures { result ≡ row_of (reply_told found) }
+{
+    match found {
+        Ok(Some(row)) => PlanRow {
             some: 1,
             row: row as u64,
+            ..PlanRow::default()
         },
-        Found::Nothing => PlanRow {
-            number: 0,
-            place: 0,
-            some: 0,
-            row: 0,
-        },
-        Found::Refused(number, place) => PlanRow {
-            number: number,
-            place: place,
-            some: 0,
-            row: 0,
-        },
+        Ok(None) => PlanRow::default(),
+        Err(e) => {
+            let Answer { number, place, .. } = Answer::from(e);
+            PlanRow {
+                number,
+                place,
+                ..PlanRow::default()
+            }
+        }
     }
 }
 
 // The subtree of a row, as so many rows from that row on.
-pub fn part_of(top: Found, length: usize) -> PlanPart
-    ensures { result ≡ part_of (told top) length }
+pub fn part_of(top: Result<usize, RowRefusal>, length: usize) -> PlanPart
+    ensures { result ≡ part_of (row_told top) length }
 {
     match top {
-        Found::Row(row) => PlanPart {
-            number: 0,
-            place: 0,
+        Ok(row) => PlanPart {
             start: row as u64,
             length: length as u64,
+            ..PlanPart::default()
         },
-        Found::Nothing => PlanPart {
-            number: 0,
-            place: 0,
-            start: 0,
-            length: 0,
-        },
-        Found::Refused(number, place) => PlanPart {
-            number: number,
-            place: place,
-            start: 0,
-            length: 0,
-        },
+        Err(e) => {
+            let Answer { number, place, .. } = Answer::from(e);
+            PlanPart {
+                number,
+                place,
+                ..PlanPart::default()
+            }
+        }
     }
 }
 
 // The start of a walk.
-pub fn walk_of(s: Start) -> PlanWalk
-    ensures { result ≡ walk_of (started s) }
+pub fn walk_of(start: Result<Span, RowRefusal>) -> PlanWalk
+    ensures { result ≡ walk_of (start_told start) }
 {
-    let answer = s.answer;
-    let next = s.next as u64;
-    let end = s.end as u64;
-    match answer {
-        Found::Row(_) => PlanWalk {
-            number: 0,
-            place: 0,
-            next: next,
-            end: end,
+    match start {
+        Ok(s) => PlanWalk {
+            next: s.next as u64,
+            end: s.end as u64,
+            ..PlanWalk::default()
         },
-        Found::Nothing => PlanWalk {
-            number: 0,
-            place: 0,
-            next: next,
-            end: end,
-        },
-        Found::Refused(number, place) => PlanWalk {
-            number: number,
-            place: place,
-            next: next,
-            end: end,
-        },
+        Err(e) => {
+            let Answer { number, place, .. } = Answer::from(e);
+            PlanWalk {
+                number,
+                place,
+                ..PlanWalk::default()
+            }
+        }
     }
 }
 
 // A step at the candidate c: one that gives no child stays there.
-pub fn step_of(w: Walk, c: u64) -> PlanStep
-    ensures { result ≡ step_of (walked w) c }
+pub fn step_of(step: Result<Option<Child>, Misfit>, c: u64) -> PlanStep
+    ensures { result ≡ step_of (step_told step) c }
 {
-    match w {
-        Walk::Child(row, next) => PlanStep {
-            number: 0,
-            place: 0,
+    match step {
+        Ok(Some(child)) => PlanStep {
             some: 1,
-            row: row as u64,
-            next: next as u64,
+            row: child.row as u64,
+            next: child.next as u64,
+            ..PlanStep::default()
         },
-        Walk::Done => PlanStep {
-            number: 0,
-            place: 0,
-            some: 0,
-            row: 0,
+        Ok(None) => PlanStep {
             next: c,
+            ..PlanStep::default()
         },
-        Walk::Refused(number, place) => PlanStep {
-            number: number,
-            place: place as u64,
-            some: 0,
-            row: 0,
+        Err(Misfit(candidate)) => PlanStep {
+            number: 12,
+            place: candidate as u64,
             next: c,
+            ..PlanStep::default()
         },
     }
 }
 
 // What became of an old row: its new number, or it is gone.
-pub fn became_of(b: Became) -> PlanBecame
-    ensures { result ≡ became_of b }
+pub fn became_of(became: Result<Option<NewPre>, Refusal>) -> PlanBecame
+    ensures { result ≡ became_of (became_told became) }
 {
-    match b {
-        Became::Row(new) => PlanBecame {
-            number: 0,
-            place: 0,
-            count: 0,
-            gone: 0,
+    match became {
+        Ok(Some(new)) => PlanBecame {
             row: new.0,
+            ..PlanBecame::default()
         },
-        Became::Gone => PlanBecame {
-            number: 0,
-            place: 0,
-            count: 0,
+        Ok(None) => PlanBecame {
             gone: 1,
-            row: 0,
+            ..PlanBecame::default()
         },
-        Became::Refused(number, place, count) => PlanBecame {
-            number: number,
-            place: place,
-            count: count,
-            gone: 0,
-            row: 0,
-        },
+        Err(e) => {
+            let Answer {
+                number,
+                place,
+                count,
+            } = Answer::from(e);
+            PlanBecame {
+                number,
+                place,
+                count,
+                ..PlanBecame::default()
+            }
+        }
     }
 }
 
 // Which row a new one was: an old row, or a record and the row in its run.
-pub fn was_of(w: Was) -> PlanWas
-    ensures { result ≡ was_of w }
+pub fn was_of(was: Result<Source, Refusal>) -> PlanWas
+    ensures { result ≡ was_of (was_told was) }
 {
-    match w {
-        Was::Old(old) => PlanWas {
-            number: 0,
-            place: 0,
-            count: 0,
-            inserted: 0,
-            record: 0,
+    match was {
+        Ok(Source::Old(old)) => PlanWas {
             row: old.0,
+            ..PlanWas::default()
         },
-        Was::Run(k, i) => PlanWas {
-            number: 0,
-            place: 0,
-            count: 0,
+        Ok(Source::Run(k, i)) => PlanWas {
             inserted: 1,
             record: k,
             row: i,
+            ..PlanWas::default()
         },
-        Was::Refused(number, place, count) => PlanWas {
-            number: number,
-            place: place,
-            count: count,
-            inserted: 0,
-            record: 0,
-            row: 0,
-        },
+        Err(e) => {
+            let Answer {
+                number,
+                place,
+                count,
+            } = Answer::from(e);
+            PlanWas {
+                number,
+                place,
+                count,
+                ..PlanWas::default()
+            }
+        }
     }
 }

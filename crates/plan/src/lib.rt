@@ -205,7 +205,7 @@ pub enum Judgement {
 
 // `plan_row`: a row, or none.
 #[repr(C)]
-#[derive(Clone, Copy)]
+#[derive(Clone, Copy, Default)]
 pub struct PlanRow {
     pub number: u32,
     pub place: u32,
@@ -215,7 +215,7 @@ pub struct PlanRow {
 
 // `plan_part`: the part of the columns that one subtree takes.
 #[repr(C)]
-#[derive(Clone, Copy)]
+#[derive(Clone, Copy, Default)]
 pub struct PlanPart {
     pub number: u32,
     pub place: u32,
@@ -225,7 +225,7 @@ pub struct PlanPart {
 
 // `plan_walk`: the next candidate of a child walk, and its end.
 #[repr(C)]
-#[derive(Clone, Copy)]
+#[derive(Clone, Copy, Default)]
 pub struct PlanWalk {
     pub number: u32,
     pub place: u32,
@@ -235,7 +235,7 @@ pub struct PlanWalk {
 
 // `plan_step`: a child, or none, and where the next step goes on.
 #[repr(C)]
-#[derive(Clone, Copy)]
+#[derive(Clone, Copy, Default)]
 pub struct PlanStep {
     pub number: u32,
     pub place: u64,
@@ -246,7 +246,7 @@ pub struct PlanStep {
 
 // `plan_became`: what became of an old row.
 #[repr(C)]
-#[derive(Clone, Copy)]
+#[derive(Clone, Copy, Default)]
 pub struct PlanBecame {
     pub number: u32,
     pub place: u32,
@@ -257,7 +257,7 @@ pub struct PlanBecame {
 
 // `plan_was`: which row a new row was.
 #[repr(C)]
-#[derive(Clone, Copy)]
+#[derive(Clone, Copy, Default)]
 pub struct PlanWas {
     pub number: u32,
     pub place: u32,

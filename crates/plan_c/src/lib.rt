@@ -1,6 +1,6 @@
-// The calls for C and for Rust, as `include/plan.h` declares them. A call on a list takes one record of the lent slice
-// after another to the functions that it shares with the call on columns; any other hands what it is given to the
-// library. The library's answer is handed back as plain numbers.
+// The calls for C and for Rust, as `include/plan.h` declares them. Each puts the lent columns side by side, hands them to
+// the library, and hands its answer back as plain numbers. A list is lent as a slice of records.
+// C lends column by column, so the parameters stay single.
 #![tactic(auto)]
 
 ghost use Rattle.std.specs.Prelude.{◌≡◌, true, [], ◌∷◌, length};
@@ -16,12 +16,12 @@ ghost use Rattle.plan.specs.Call.{Done};
 ghost use Rattle.plan.specs.Handed.{row_of, part_of, walk_of, step_of, became_of, was_of};
 
 use along::{every_new, every_old, new_row, old_row};
-use handed::{became_of, part_of, row_of, step_of, walk_of, was_of};
+use handed::{answer_of, became_of, part_of, row_of, step_of, walk_of, was_of};
+use plan::lent::Table;
 use plan::{
     Answer, NewPre, OldPre, PlanBecame, PlanPart, PlanRow, PlanStep, PlanWalk, PlanWas, Record,
 };
-use records::judged;
-use refresh::{single, work};
+use refresh::{apply, single};
 use table::axes::{first_child, next_sibling, parent, subtree, subtree_top};
 use table::sound::soundness;
 use table::walk::{start_walk, step};
@@ -30,7 +30,7 @@ use table::walk::{start_walk, step};
 pub fn plan_soundness(dist: &[u32], size: &[u32], value: &[u32]) -> Answer
     ensures { result ≡ soundness_of (table dist.now size.now value.now) }
 {
-    soundness(dist, size, value)
+    answer_of(soundness(Table { dist, size, value }))
 }
 
 // The parent of a row; none for row 0.
@@ -38,7 +38,7 @@ pub fn plan_parent(dist: &[u32], size: &[u32], value: &[u32], row: u32) -> PlanR
     ensures { let t = table dist.now size.now value.now in
         result ≡ row_of (parent_of t row) }
 {
-    row_of(parent(dist, size, value, row))
+    row_of(parent(Table { dist, size, value }, row))
 }
 
 // The first child of a row, or none.
@@ -46,7 +46,7 @@ pub fn plan_first_child(dist: &[u32], size: &[u32], value: &[u32], row: u32) -> 
     ensures { let t = table dist.now size.now value.now in
         result ≡ row_of (first_child t row) }
 {
-    row_of(first_child(dist, size, value, row))
+    row_of(first_child(Table { dist, size, value }, row))
 }
 
 // The next sibling of a row, or none.
@@ -54,7 +54,7 @@ pub fn plan_next_sibling(dist: &[u32], size: &[u32], value: &[u32], row: u32) ->
     ensures { let t = table dist.now size.now value.now in
         result ≡ row_of (next_sibling t row) }
 {
-    row_of(next_sibling(dist, size, value, row))
+    row_of(next_sibling(Table { dist, size, value }, row))
 }
 
 // The rows of one subtree: where that part of the columns starts, and how long it is.
@@ -62,9 +62,8 @@ pub fn plan_subtree(dist: &[u32], size: &[u32], value: &[u32], row: u32) -> Plan
     ensures { let t = table dist.now size.now value.now in
         result ≡ part_of (subtree_top t row) (length (values_of t row)) }
 {
-    let top = subtree_top(dist, size, value, row);
-    let values = subtree(dist, size, value, row);
-    part_of(top, values.len())
+    let t = Table { dist, size, value };
+    part_of(subtree_top(t, row), subtree(t, row).len())
 }
 
 // A walk over the children of a row, at its start.
@@ -72,7 +71,7 @@ pub fn plan_children(dist: &[u32], size: &[u32], value: &[u32], row: u32) -> Pla
     ensures { let t = table dist.now size.now value.now in
         result ≡ walk_of (walk_start t row) }
 {
-    walk_of(start_walk(dist, size, value, row))
+    walk_of(start_walk(Table { dist, size, value }, row))
 }
 
 // One step of a child walk over the size column.
@@ -101,9 +100,13 @@ pub fn plan_single(
         let w = table ndist.new nsize.new nvalue.new in
         Done true t i (change ∷ []) u result w }
 {
-    single(
-        dist, size, value, change, idist, isize, ivalue, ndist, nsize, nvalue,
-    )
+    let t = Table { dist, size, value };
+    let i = Table {
+        dist: idist,
+        size: isize,
+        value: ivalue,
+    };
+    answer_of(single(t, change, i, ndist, nsize, nvalue))
 }
 
 // A list of records applied in one pass.
@@ -125,16 +128,13 @@ pub fn plan_bulk(
         let w = table ndist.new nsize.new nvalue.new in
         Done true t i list.now u result w }
 {
-    let j = judged(list, dist, size, value, idist, isize, ivalue);
-    let mut s = work::begin(j, value, ndist, nsize, nvalue);
-    let mut i = 0;
-    while i < list.len() {
-        s = work::next(
-            s, list[i], dist, size, value, idist, isize, ivalue, ndist, nsize, nvalue,
-        );
-        i = i + 1;
-    }
-    work::end(s, dist, size, value, ndist, nsize, nvalue)
+    let t = Table { dist, size, value };
+    let i = Table {
+        dist: idist,
+        size: isize,
+        value: ivalue,
+    };
+    answer_of(apply(t, &list, i, ndist, nsize, nvalue))
 }
 
 // What a list makes of an old row.
@@ -153,15 +153,13 @@ pub fn plan_old_to_new(
         let v = queried true t i list.now (length t.size) row in
         result ≡ became_of (became v (fate (origins (result_of t i list.now)) 0 row)) }
 {
-    let old = OldPre(row);
-    let j = judged(list, dist, size, value, idist, isize, ivalue);
-    let mut w = old_row::begin(j, size.len(), old);
-    let mut i = 0;
-    while i < list.len() {
-        w = old_row::next(w, list[i], size, isize, old);
-        i = i + 1;
-    }
-    became_of(old_row::end(w, old))
+    let t = Table { dist, size, value };
+    let i = Table {
+        dist: idist,
+        size: isize,
+        value: ivalue,
+    };
+    became_of(old_row::old_to_new(t, &list, i, OldPre(row)))
 }
 
 // Which row a new row was.
@@ -181,15 +179,13 @@ pub fn plan_new_to_old(
         let v = queried true t i list.now (count f) row in
         result ≡ was_of (was v (origin_at (origins f) row)) }
 {
-    let new = NewPre(row);
-    let j = judged(list, dist, size, value, idist, isize, ivalue);
-    let mut w = new_row::begin(j, new);
-    let mut i = 0;
-    while i < list.len() {
-        w = new_row::next(w, list[i], size, isize, new);
-        i = i + 1;
-    }
-    was_of(new_row::end(w, new))
+    let t = Table { dist, size, value };
+    let i = Table {
+        dist: idist,
+        size: isize,
+        value: ivalue,
+    };
+    was_of(new_row::new_to_old(t, &list, i, NewPre(row)))
 }
 
 // For every old row its new number, or that it is gone.
@@ -207,14 +203,13 @@ pub fn plan_map_old(
         let i = table idist.now isize.now ivalue.now in
         OldDone true t i list.now number.old result number.new }
 {
-    let j = judged(list, dist, size, value, idist, isize, ivalue);
-    let mut w = every_old::begin(j, size.len(), number);
-    let mut i = 0;
-    while i < list.len() {
-        w = every_old::next(w, list[i], size, isize, number);
-        i = i + 1;
-    }
-    every_old::end(w, size, number)
+    let t = Table { dist, size, value };
+    let i = Table {
+        dist: idist,
+        size: isize,
+        value: ivalue,
+    };
+    answer_of(every_old::map_old(t, &list, i, number))
 }
 
 // For every new row where it comes from.
@@ -234,12 +229,11 @@ pub fn plan_map_new(
         let u = places records.old rows.old in
         NewDone true t i list.now u result (places records.new rows.new) }
 {
-    let j = judged(list, dist, size, value, idist, isize, ivalue);
-    let mut w = every_new::begin(j, records, rows);
-    let mut i = 0;
-    while i < list.len() {
-        w = every_new::next(w, list[i], size, isize, records, rows);
-        i = i + 1;
-    }
-    every_new::end(w, size, records, rows)
+    let t = Table { dist, size, value };
+    let i = Table {
+        dist: idist,
+        size: isize,
+        value: ivalue,
+    };
+    answer_of(every_new::map_new(t, &list, i, records, rows))
 }

@@ -6,9 +6,9 @@ use std::path::Path;
 
 /// A function, as the code has it.
 pub struct Function {
-    /// `crate::module::function`, with the type where it stands in an `impl`.
+    /// `crate::module::function`, with the type or the trait where it stands in an `impl` or a `trait`.
     pub name: String,
-    /// Is it `pub`?
+    /// Is it `pub`, or one of a `pub trait`?
     pub public: bool,
     /// Is it exported to C?
     pub exported: bool,
@@ -16,12 +16,27 @@ pub struct Function {
     pub asks: bool,
     /// Its `ensures`, where it has one.
     pub ensures: Option<String>,
-    /// The name of the type that it answers, without its lifetimes.
+    /// The type that it answers.
     pub answers: String,
     /// What the `ghost use` lines of its file bring in.
     pub brought: BTreeMap<String, Brought>,
     /// What the `use` lines of its file bring in, as they are written.
     pub uses: BTreeSet<String>,
+}
+
+impl Function {
+    /// The names of types in its answer, but for those that Rust has without a `use`.
+    pub fn types(&self) -> Vec<&str> {
+        let words = self.answers.split(|c: char| !c.is_alphanumeric() && c != '_');
+        let types = words.filter(|word| word.starts_with(char::is_uppercase));
+        types.filter(|word| !["Option", "Result"].contains(word)).collect()
+    }
+
+    /// Does its file bring this type in from the crate or one of its modules?
+    pub fn uses_from(&self, crate_name: &str, name: &str) -> bool {
+        let of_crate = |path: &&String| path.split("::").next() == Some(crate_name);
+        self.uses.iter().filter(of_crate).any(|path| path.rsplit("::").next() == Some(name))
+    }
 }
 
 /// A name of the logic: the module that it is from, and what it is called there.
@@ -53,12 +68,18 @@ fn module(name: &str, source: &Path, file: &Path) -> String {
 fn in_file(module: &str, text: &str) -> Vec<Function> {
     let mut found = Vec::new();
     let mut scope = module.to_string();
+    let mut for_all = false;
     let lines: Vec<&str> = text.lines().collect();
     for (place, line) in lines.iter().enumerate() {
         if line.starts_with("impl") {
             scope = format!("{module}::{}", implemented(line));
+        } else if let Some(name) = line.strip_prefix("pub trait ") {
+            let end = name.find(|c: char| !c.is_alphanumeric()).expect("a trait has a body");
+            scope = format!("{module}::{}", &name[..end]);
+            for_all = true;
         } else if *line == "}" {
             scope = module.to_string();
+            for_all = false;
         }
         let Some((before, after)) = line.split_once("fn ") else { continue };
         let words: Vec<&str> = before.split_whitespace().collect();
@@ -69,7 +90,7 @@ fn in_file(module: &str, text: &str) -> Vec<Function> {
         let contract = contract(&lines[place..]);
         found.push(Function {
             name: format!("{scope}::{}", &after[..end]),
-            public: words.contains(&"pub"),
+            public: for_all || words.contains(&"pub"),
             exported: words.contains(&"extern"),
             asks: clauses(&contract, "requires").is_some(),
             ensures: clauses(&contract, "ensures"),
@@ -89,36 +110,43 @@ fn implemented(line: &str) -> &str {
 }
 
 /// A function's head: the lines from its first up to its body, which starts on a line of its own behind a contract, and
-/// else on the line that ends the parameters.
+/// else on the line that ends the parameters; a function of a `trait` ends with its head.
 fn contract(lines: &[&str]) -> String {
     let mut head = Vec::new();
     for line in lines.iter().take_while(|line| line.trim() != "{") {
         head.push(*line);
-        if line.ends_with('{') && (head.len() == 1 || line.trim_start().starts_with(')')) {
+        let opens = line.ends_with('{') && (head.len() == 1 || line.trim_start().starts_with(')'));
+        if opens || line.ends_with(';') {
             break;
         }
     }
     head.join("\n")
 }
 
+/// Is it a line on which a clause of this kind starts?
+fn is_clause(line: &str, kind: &str) -> bool {
+    let behind = line.trim_start().strip_prefix(kind);
+    let name = behind.and_then(|rest| rest.split_once('{')).map(|(name, _)| name);
+    name.is_some_and(|name| name.starts_with([' ', '*']))
+}
+
 /// The clauses of a kind in a head, from the first of them on: `ensures { .. }`, `ensures* { .. }` or, where a function
 /// has several, `ensures name { .. }`.
 fn clauses(head: &str, kind: &str) -> Option<String> {
     let lines: Vec<&str> = head.lines().collect();
-    let opens = |line: &&str| {
-        let behind = line.trim_start().strip_prefix(kind);
-        let name = behind.and_then(|rest| rest.split_once('{')).map(|(name, _)| name);
-        name.is_some_and(|name| name.starts_with([' ', '*']))
-    };
-    let first = lines.iter().position(opens)?;
+    let first = lines.iter().position(|line| is_clause(line, kind))?;
     let (_, rest) = lines[first].split_once('{')?;
     Some(std::iter::once(&rest).chain(&lines[first + 1..]).copied().collect::<Vec<_>>().join("\n"))
 }
 
-/// The type behind a head's arrow.
+/// The type behind a head's last arrow; what a closure among its parameters answers stands behind an earlier one.
 fn answers(head: &str) -> String {
-    let behind = head.split("-> ").nth(1).and_then(|rest| rest.lines().next());
-    behind.unwrap_or("()").split(['<', '{']).next().expect("a type").trim().to_string()
+    let clauses = ["requires", "ensures"];
+    let starts = |line: &&str| clauses.iter().any(|kind| is_clause(line, kind));
+    let parameters: Vec<&str> = head.lines().take_while(|line| !starts(line)).collect();
+    let parameters = parameters.join("\n");
+    let behind = parameters.rsplit_once("-> ").and_then(|(_, rest)| rest.lines().next());
+    behind.unwrap_or("()").trim_end_matches(['{', ';']).trim().to_string()
 }
 
 /// What the `use` lines of a file bring in, each name with its path.
@@ -198,10 +226,11 @@ mod tests {
     const FILE: &str = "use plan::{
     Found, Walk,
 };
+use plan::refusal::Misfit;
 ghost use Rattle.std.specs.Prelude.{◌≤◌};
 ghost use Rattle.plan.specs.Axes.{parent as parent_of, first, size, leb, ◌⊕◌};
 impl<'a> Walker<'a> {
-    pub fn step(&mut self) -> Walk<'a>
+    pub fn step<L: Records>(&mut self, f: impl Fn(u32) -> bool) -> Result<Option<Walk<'a>>, Misfit>
         requires low { 0 ≤ 1 }
         ensures is_parent { result ≡ parent_of t.leb }
         ensures* { λ a. ⌜ a ≡ (first t).size ⌝ }
@@ -220,18 +249,34 @@ pub extern \"C\" fn given() -> u32
 {
     0
 }
+pub trait Records {
+    ghost list: { Self → List Record };
+    fn record(&self, j: usize) -> Record
+        requires { j < length (list self.now) };
+    fn len(&self) -> usize
+        ensures { result ≡ length (list self.now) };
+}
+fn last() {}
 ";
 
     #[test]
     fn functions_are_found_with_their_contracts() {
         let found = in_file("c::walker", FILE);
         let names: Vec<&str> = found.iter().map(|function| function.name.as_str()).collect();
-        assert_eq!(names, ["c::walker::Walker::step", "c::walker::plain", "c::walker::given"]);
+        let methods = ["c::walker::Records::record", "c::walker::Records::len"];
+        assert_eq!(names[..3], ["c::walker::Walker::step", "c::walker::plain", "c::walker::given"]);
+        assert_eq!(names[3..5], methods);
+        assert_eq!(names[5..], ["c::walker::last"]);
         assert!(found[0].public && found[0].asks && !found[0].exported);
         assert!(found[1].ensures.is_none() && !found[1].public && !found[1].asks);
         assert!(found[2].ensures.is_some() && found[2].exported && !found[2].asks);
-        assert_eq!([&found[0].answers, &found[1].answers], ["Walk", "u32"]);
-        assert!(found[0].uses.contains("plan::Walk") && found[0].uses.contains("plan::Found"));
+        assert!(found[3].public && found[3].asks && found[3].ensures.is_none());
+        assert!(found[4].public && !found[4].asks && found[4].ensures.is_some());
+        assert!(!found[5].public);
+        assert_eq!([&found[1].answers, &found[4].answers], ["u32", "usize"]);
+        assert_eq!(found[0].types(), ["Walk", "Misfit"]);
+        assert!(found[0].uses_from("plan", "Walk") && found[0].uses_from("plan", "Misfit"));
+        assert!(!found[0].uses_from("plan", "Row") && !found[0].uses_from("Found", "Found"));
         assert_eq!(found[0].brought["parent_of"].name, "parent");
         assert_eq!(found[0].brought["⊕"].module, "Rattle.plan.specs.Axes");
         let ensures = found[0].ensures.as_deref().expect("a contract");

@@ -67,10 +67,8 @@ fn cited(call: &Function) -> Vec<(&str, &str)> {
 /// What a call cites or answers that stands neither in `plan` nor in the kit.
 fn elsewhere(call: &Function) -> Vec<&str> {
     let cited = cited(call).into_iter().filter(|(_, module)| !in_plan_or_kit(module));
-    let plain = !call.answers.contains(char::is_uppercase);
-    let answer = (!plain && !call.uses.contains(&format!("plan::{}", call.answers)))
-        .then_some(call.answers.as_str());
-    cited.map(|(name, _)| name).chain(answer).collect()
+    let answered = call.types().into_iter().filter(|name| !call.uses_from("plan", name));
+    cited.map(|(name, _)| name).chain(answered).collect()
 }
 
 #[test]

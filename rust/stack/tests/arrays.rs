@@ -31,7 +31,7 @@ fn lengths_are_found() {
 #[test]
 fn no_array_is_long() {
     let root = Path::new(env!("CARGO_MANIFEST_DIR")).join("../..");
-    let mut found = 0;
+    let mut files = 0;
     for folder in crates(&root) {
         for file in fs::read_dir(folder).expect("a crate has a folder src") {
             let path = file.expect("a file").path();
@@ -40,9 +40,9 @@ fn no_array_is_long() {
             for length in lengths(&code.join("\n")) {
                 let short = length.parse().is_ok_and(|length: usize| length <= MOST);
                 assert!(short, "{}: an array of {length}", path.display());
-                found += 1;
             }
+            files += 1;
         }
     }
-    assert!(found > 0, "the arrays of one of the single call");
+    assert!(files > 20, "the code of all crates is read");
 }

@@ -5,32 +5,17 @@ ghost use Rattle.std.specs.Prelude.{◌≤◌};
 
 use judge::judged;
 use out::{heading, worked};
-use plan::Judgement;
 use plan::lent::{Changes, Table};
 use std::io;
 
-const LAST: u32 = 4294967295;
-
-// The answer, to the end of the line.
-fn told(rt: &impl Print, a: Judgement) -> io::Result<()> {
-    match a {
-        Judgement::Needs(n) => println!(rt; "needs {n}"),
-        Judgement::Refused(number, place, count) => {
-            println!(rt; "refused {number}, place {place}, count {count}")
-        }
-    }
-}
+const LAST: u32 = u32::MAX;
 
 // The judgement of a list on a table, after its name.
 fn case(rt: &impl Print, name: &str, t: Table, l: Changes, i: Table) -> io::Result<()> {
-    print!(rt; "{name}: ")?;
-    told(
-        rt,
-        judged(
-            t.dist, t.size, t.value, l.kind, l.location, l.parent, l.from, l.value, i.dist, i.size,
-            i.value,
-        ),
-    )
+    match judged(t, l, i) {
+        Ok(rows) => println!(rt; "{name}: needs {rows}"),
+        Err(refusal) => println!(rt; "{name}: {refusal}"),
+    }
 }
 
 // A list on the table T.

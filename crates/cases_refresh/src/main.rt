@@ -3,6 +3,7 @@
 #![tactic(auto)]
 
 use out::{column, flat, heading, worked};
+use plan::lent::{Changes, Table};
 use plan::{Answer, Record};
 use refresh::{bulk, single};
 use std::io;
@@ -19,40 +20,33 @@ fn told(rt: &impl Print, a: Answer) -> io::Result<()> {
     }
 }
 
+// The bulk call.
+fn applied(
+    t: Table,
+    l: Changes,
+    i: Table,
+    ndist: &mut [u32],
+    nsize: &mut [u32],
+    nvalue: &mut [u32],
+) -> Answer {
+    bulk(
+        t.dist, t.size, t.value, l.kind, l.location, l.parent, l.from, l.value, i.dist, i.size,
+        i.value, ndist, nsize, nvalue,
+    )
+}
+
 // A list on T, with new columns of 9 rows that hold 99.
-fn on_t(
-    rt: &impl Print,
-    name: &str,
-    kind: &[u32],
-    location: &[u32],
-    parent: &[u32],
-    from: &[u32],
-    values: &[u32],
-) -> io::Result<()> {
-    let dist = worked::DIST;
-    let size = worked::SIZE;
-    let value = worked::VALUE;
-    let idist = worked::RUN_DIST;
-    let isize = worked::RUN_SIZE;
-    let ivalue = worked::RUN_VALUE;
+fn on_t(rt: &impl Print, name: &str, l: Changes) -> io::Result<()> {
     let mut ndist: [u32; 9] = [99; 9];
     let mut nsize: [u32; 9] = [99; 9];
     let mut nvalue: [u32; 9] = [99; 9];
     print!(rt; "{name}: ")?;
     told(
         rt,
-        bulk(
-            &dist,
-            &size,
-            &value,
-            kind,
-            location,
-            parent,
-            from,
-            values,
-            &idist,
-            &isize,
-            &ivalue,
+        applied(
+            worked::TABLE,
+            l,
+            worked::INSERTIONS,
             &mut ndist,
             &mut nsize,
             &mut nvalue,
@@ -69,30 +63,16 @@ fn on_t(
 
 // Case L: A with new columns of 7 rows.
 fn short(rt: &impl Print) -> io::Result<()> {
-    let dist = worked::DIST;
-    let size = worked::SIZE;
-    let value = worked::VALUE;
-    let idist = worked::RUN_DIST;
-    let isize = worked::RUN_SIZE;
-    let ivalue = worked::RUN_VALUE;
     let mut ndist: [u32; 7] = [99; 7];
     let mut nsize: [u32; 7] = [99; 7];
     let mut nvalue: [u32; 7] = [99; 7];
     print!(rt; "L: ")?;
     told(
         rt,
-        bulk(
-            &dist,
-            &size,
-            &value,
-            &[2, 1, 2],
-            &[2, 4, 6],
-            &[1, 0, 0],
-            &[2, 0, 0],
-            &[0, 0, 0],
-            &idist,
-            &isize,
-            &ivalue,
+        applied(
+            worked::TABLE,
+            worked::A,
+            worked::INSERTIONS,
             &mut ndist,
             &mut nsize,
             &mut nvalue,
@@ -118,37 +98,38 @@ fn on_flat(
     let mut nsize = [0u32; 65535];
     let mut nvalue = [0u32; 65535];
     flat(&mut dist, &mut size, 65535);
-    let one: [u32; 1] = [1];
+    let t = Table {
+        dist: &dist,
+        size: &size,
+        value: &value,
+    };
+    let l = Changes {
+        kind,
+        location,
+        parent: none,
+        from: none,
+        value: none,
+    };
+    let i = Table {
+        dist: &[1],
+        size: &[1],
+        value: &[1],
+    };
     print!(rt; "{name}: ")?;
-    told(
-        rt,
-        bulk(
-            &dist,
-            &size,
-            &value,
-            kind,
-            location,
-            none,
-            none,
-            none,
-            &one,
-            &one,
-            &one,
-            &mut ndist,
-            &mut nsize,
-            &mut nvalue,
-        ),
-    )
+    told(rt, applied(t, l, i, &mut ndist, &mut nsize, &mut nvalue))
 }
 
 // The single call: delete 4 on T.
 fn alone(rt: &impl Print) -> io::Result<()> {
-    let dist = worked::DIST;
-    let size = worked::SIZE;
-    let value = worked::VALUE;
-    let idist = worked::RUN_DIST;
-    let isize = worked::RUN_SIZE;
-    let ivalue = worked::RUN_VALUE;
+    let t = worked::TABLE;
+    let i = worked::INSERTIONS;
+    let delete = Record {
+        kind: Record::DELETE,
+        location: 4,
+        parent: 0,
+        from: 0,
+        value: 0,
+    };
     let mut ndist: [u32; 7] = [99; 7];
     let mut nsize: [u32; 7] = [99; 7];
     let mut nvalue: [u32; 7] = [99; 7];
@@ -156,19 +137,13 @@ fn alone(rt: &impl Print) -> io::Result<()> {
     told(
         rt,
         single(
-            &dist,
-            &size,
-            &value,
-            Record {
-                kind: Record::DELETE,
-                location: 4,
-                parent: 0,
-                from: 0,
-                value: 0,
-            },
-            &idist,
-            &isize,
-            &ivalue,
+            t.dist,
+            t.size,
+            t.value,
+            delete,
+            i.dist,
+            i.size,
+            i.value,
             &mut ndist,
             &mut nsize,
             &mut nvalue,
@@ -181,30 +156,14 @@ fn alone(rt: &impl Print) -> io::Result<()> {
 
 fn main(rt: HostRuntime) -> io::Result<()> {
     heading(&rt, "lists on T; new columns of 9 rows that hold 99")?;
-    on_t(
-        &rt,
-        "A",
-        &[2, 1, 2],
-        &[2, 4, 6],
-        &[1, 0, 0],
-        &[2, 0, 0],
-        &[0, 0, 0],
-    )?;
-    on_t(
-        &rt,
-        "B",
-        &[1, 2, 2],
-        &[4, 6, 6],
-        &[0, 4, 0],
-        &[0, 2, 0],
-        &[0, 0, 0],
-    )?;
-    on_t(&rt, "C", &[2, 2], &[6, 6], &[0, 4], &[0, 2], &[0, 0])?;
-    on_t(&rt, "D", &[2, 1], &[4, 4], &[0, 0], &[2, 0], &[0, 0])?;
-    on_t(&rt, "G, rename", &[3], &[0], &[0], &[0], &[9])?;
-    on_t(&rt, "I", &[2], &[3], &[2], &[2], &[0])?;
-    on_t(&rt, "J", &[], &[], &[], &[], &[])?;
-    on_t(&rt, "K", &[4], &[1], &[0], &[2], &[0])?;
+    on_t(&rt, "A", worked::A)?;
+    on_t(&rt, "B", worked::B)?;
+    on_t(&rt, "C", worked::C)?;
+    on_t(&rt, "D", worked::D)?;
+    on_t(&rt, "G, rename", worked::G)?;
+    on_t(&rt, "I", worked::I)?;
+    on_t(&rt, "J", worked::J)?;
+    on_t(&rt, "K", worked::K)?;
     short(&rt)?;
     alone(&rt)?;
     heading(&rt, "the flat table of 65,535 rows")?;

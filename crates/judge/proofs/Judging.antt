@@ -1,4 +1,4 @@
--- Tests 1 to 3, before the first record: what each tells, what all of them come to, and what an exam begins with.
+-- Tests 1 to 3, before the first record: what one of them refuses is the judgement.
 -- Assumes nothing.
 use Prim.Native.Nat.{ℕ}
 use mathlib.Core.Path.{◌≡◌, refl, ap, ◌∙◌}

@@ -2,7 +2,6 @@
 #![tactic(auto)]
 
 use out::worked;
-use plan::Record;
 use std::io;
 
 // As many rows of the new table as the call counted, each on a line of its own.
@@ -20,32 +19,24 @@ fn rows(
 }
 
 fn main(rt: HostRuntime) -> io::Result<()> {
-    let dist = worked::DIST;
-    let size = worked::SIZE;
-    let value = worked::VALUE;
-    let kind: [u32; 3] = [Record::INSERT, Record::DELETE, Record::INSERT];
-    let location: [u32; 3] = [2, 4, 6];
-    let parent: [u32; 3] = [1, 0, 0];
-    let from: [u32; 3] = [2, 0, 0];
-    let values: [u32; 3] = [0, 0, 0];
-    let run_dist = worked::RUN_DIST;
-    let run_size = worked::RUN_SIZE;
-    let run_value = worked::RUN_VALUE;
+    let t = worked::TABLE;
+    let l = worked::A;
+    let i = worked::INSERTIONS;
     let mut new_dist: [u32; 8] = [0; 8];
     let mut new_size: [u32; 8] = [0; 8];
     let mut new_value: [u32; 8] = [0; 8];
     let answer = refresh::bulk(
-        &dist,
-        &size,
-        &value,
-        &kind,
-        &location,
-        &parent,
-        &from,
-        &values,
-        &run_dist,
-        &run_size,
-        &run_value,
+        t.dist,
+        t.size,
+        t.value,
+        l.kind,
+        l.location,
+        l.parent,
+        l.from,
+        l.value,
+        i.dist,
+        i.size,
+        i.value,
         &mut new_dist,
         &mut new_size,
         &mut new_value,

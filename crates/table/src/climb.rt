@@ -15,7 +15,8 @@ fn end(size: &[u32], x: usize) -> usize
     x + wide(size[x])
 }
 
-// The parent of row r, from a row that does not end before r: up, as long as the row ends at r.
+// The parent of row r, from a row that does not end before r: up, as long as the row ends at r. Each turn goes to the
+// parent, and no index is counted.
 fn up(dist: &[u32], size: &[u32], r: usize, start: usize) -> usize
     requires { Ready dist.now size.now r start }
     ensures { Inner (cell size.now) r result }

@@ -3,7 +3,7 @@ use native.Mathlib.Omega.{arith}
 use native.Mathlib.Numerals.{add-one}
 use Rattle.std.proofs.lemmas.Result.{err_from_is_err_and}
 use Rattle.judge.proofs.Judging.{first-refused}
-use Rattle.judge.proofs.Onward.{can_try, fails, can_count, can_meet, goes_on, none_left, few-rows, published-rows}
+use Rattle.judge.proofs.Onward.{can_try, fails, can_count, can_meet, goes_on, none_left, row_inside, published-rows}
 use Rattle.judge.proofs.exam.judged.Goals as goal
 
 pub returns-in_err-first_tests : goal.returns-in_err-first_tests
@@ -34,10 +34,7 @@ loop-j-preserved g c =
     c.run_rows.ensures c.onward-stand.ensures)
 
 pub overflow_sub-t : goal.overflow_sub-t
-overflow_sub-t g c = omega (arith, (few-rows (none_left c.loop-j.invariant (omega arith))).0)
-
-pub overflow_add-wide : goal.overflow_add-wide
-overflow_add-wide g c = omega (arith, few-rows (none_left c.loop-j.invariant (omega arith)))
+overflow_sub-t g c = omega (arith, row_inside (none_left c.loop-j.invariant (omega arith)))
 
 pub returns : goal.returns
 returns g c =

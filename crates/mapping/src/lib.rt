@@ -47,7 +47,13 @@ pub fn map_old(t: Table, l: Changes, i: Table, number: &mut [u32]) -> Result<u64
 }
 
 // For every new row its record and the row in its run, or the mark of no record and its old row.
-pub fn map_new(t: Table, l: Changes, i: Table, records: &mut [u32], rows: &mut [u32]) -> Result<u64, Refusal>
+pub fn map_new(
+    t: Table,
+    l: Changes,
+    i: Table,
+    records: &mut [u32],
+    rows: &mut [u32],
+) -> Result<u64, Refusal>
     ensures { let c = read_list l.entry in
         let u = places records.old rows.old in
         let u' = places records.new rows.new in

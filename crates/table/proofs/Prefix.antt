@@ -20,7 +20,8 @@ same_cells k l m e z p = sym (get_or-take k l z 0 p) ∙ ap (λ (t : List ℕ). 
 same-take : (k : ℕ) (l m : List ℕ) → length l ≡ length m → Same k (cell l) (cell m) → take k l ≡ take k m
 same-take k l m e h =
     ext_get_or 0 (take k l) (take k m) (omega (arith, length-take k l, length-take k m))
-    (λ i p. let q : i < k = omega (arith, length-take k l) in get_or-take k l i 0 q ∙ h i q ∙ sym (get_or-take k m i 0 q))
+    (λ i p. let q : i < k = omega (arith, length-take k l) in
+    get_or-take k l i 0 q ∙ h i q ∙ sym (get_or-take k m i 0 q))
 
 row_same : (s d t e : ℕ → ℕ) (r k : ℕ) → r < k → Same k s t → Same k d e → Row s d r → Row t e r
 row_same s d t e r k l hs hd w =

@@ -140,7 +140,8 @@ module _ (t : Table) (r : ℕ) (e : RowRefusal) where
     unfolding subtree subtree_top
     part_handed = go (whole t r) h
       where
-        go : (v : Verdict) → refused_told e ≡ reply v (row r) → [] ≡ part_where v (take (cell t.size r) (drop r t.value))
+        go : (v : Verdict) → refused_told e ≡ reply v (row r)
+            → [] ≡ part_where v (take (cell t.size r) (drop r t.value))
         go Passed k = no-row e r k
         go (Failed number place count) k = refl
 

@@ -5,4 +5,5 @@ use Rattle.table.specs.Rows.{Open, Rows}
 use Rattle.table.proofs.climb.rows.Given as goal
 
 abbrev pub invariant-loop-r : goal.invariant-loop-r
-invariant-loop-r l = (l.r ≤ length l.size) × Open (cell l.size) l.r l.x × Rows (cell l.size) (cell l.dist) (length l.size) l.r
+invariant-loop-r l =
+    (l.r ≤ length l.size) × Open (cell l.size) l.r l.x × Rows (cell l.size) (cell l.dist) (length l.size) l.r

@@ -24,7 +24,7 @@ fn row(rt: &impl Print, t: Table, r: u32) -> io::Result<()> {
     line(rt, "next sibling of", r, next_sibling(t, r))?;
     line(rt, "subtree of", r, subtree_top(t, r).map(|x| Some(x)))?;
     print!(rt; "  values:")?;
-    column(rt, subtree(t, r))?;
+    column(rt, subtree(t.dist, t.size, t.value, r))?;
     println!(rt)
 }
 

@@ -7,7 +7,7 @@ use walker::walker::Walker;
 
 // The walk over the children of row r, for three steps.
 fn walk(rt: &impl Print, t: Table, r: u32) -> io::Result<()> {
-    let started = Walker::new(t, r);
+    let started = Walker::new(t.dist, t.size, t.value, r);
     let mut walker = started.walker;
     print!(rt; "walker over the children of {r}: ")?;
     told::start(rt, started.answer)?;

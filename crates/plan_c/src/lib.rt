@@ -63,7 +63,7 @@ pub fn plan_subtree(dist: &[u32], size: &[u32], value: &[u32], row: u32) -> Plan
         result ≡ part_of (subtree_top t row) (length (values_of t row)) }
 {
     let t = Table { dist, size, value };
-    part_of(subtree_top(t, row), subtree(t, row).len())
+    part_of(subtree_top(t, row), subtree(dist, size, value, row).len())
 }
 
 // A walk over the children of a row, at its start.

@@ -1,6 +1,6 @@
 // The axes: what stands around one row. They read raw columns, and answer for unsound tables too.
 ghost use Rattle.std.specs.Prelude.{◌≡◌};
-ghost use Rattle.plan.specs.Table.{read};
+ghost use Rattle.plan.specs.Table.{table, read};
 ghost use Rattle.plan.specs.Axes.{parent as parent_of, first_child, next_sibling, subtree_top, subtree as values_of};
 ghost use Rattle.plan.specs.Axes.{asked_row};
 ghost use Rattle.plan.specs.Told.{reply_told, row_told};
@@ -83,14 +83,16 @@ pub fn next_sibling(t: Table, r: u32) -> Result<Option<usize>, RowRefusal>
     Ok(Some(b))
 }
 
-// The values of the subtree of row r, as that part of the lent column itself; the empty part where refused.
+// The values of the subtree of row r, as that part of the lent column itself; the empty part where refused. Three columns
+// and no Table: only the values have to live as long as the part.
 #[tactic(auto, using(crate::proofs::Told::top_within))]
-pub fn subtree<'a>(t: Table<'a>, r: u32) -> &'a [u32]
-    ensures { result.now ≡ values_of (read t.entry) r }
+pub fn subtree<'a>(dist: &[u32], size: &[u32], value: &'a [u32], r: u32) -> &'a [u32]
+    ensures { result.now ≡ values_of (table dist.now size.now value.now) r }
 {
+    let t = Table { dist, size, value };
     let Ok(x) = subtree_top(t, r) else {
-        return &t.value[..0];
+        return &value[..0];
     };
-    let e = x + wide(t.size[x]);
-    &t.value[x..e]
+    let e = x + wide(size[x]);
+    &value[x..e]
 }

@@ -2,8 +2,9 @@
 -- Assumes nothing.
 use Prim.Native.Nat.{ℕ}
 use mathlib.Core.Path.{◌≡◌}
+use mathlib.Core.List.{List}
+use denote.Ref.{Bor}
 use Rattle.std.specs.Prelude.{Option, Result}
-use Rattle.plan.specs.declared.lent.Table.{Table}
 use Rattle.plan.specs.declared.Child.{Child}
 use Rattle.plan.specs.declared.refusal.Misfit.{Misfit}
 use Rattle.table.proofs.Unique.{same_once, row_once, walk_once}
@@ -12,8 +13,9 @@ use Rattle.walker.specs.declared.walker.Started.{Started}
 use Rattle.walker.specs.Walkers.{step_of, after, Starts, Steps}
 
 -- `Walker::new`
-pub walker_once : (t : Table) (r : ℕ) (s u : Started) → Starts s t r → Starts u t r → s ≡ u
-walker_once t r s u p q =
+pub walker_once : (D : List ℕ) (size : Bor (List ℕ)) (L : List ℕ) (r : ℕ) (s u : Started) → Starts s D size L r
+    → Starts u D size L r → s ≡ u
+walker_once D size L r s u p q =
     let f = row_once _ s.answer u.answer p.0 q.0 in
     let w = same_once _ s.walker u.walker p.1 q.1 in
     λ i. record { answer = f i; walker = w i }

@@ -5,8 +5,8 @@ use mathlib.Core.Path.{◌≡◌, refl, ap, ◌∙◌}
 use mathlib.Core.List.{List, [], ◌∷◌, ◌++◌, map}
 use lib.ListN.{length, replicate}
 use Rattle.plan.specs.declared.Verdict.TheVariants.{Failed}
-use Rattle.plan.specs.declared.lent.Table.{Table as Columns}
-use Rattle.plan.specs.Table.{Table, read}
+use denote.Ref.{Bor}
+use Rattle.plan.specs.Table.{Table, table}
 use Rattle.plan.specs.Axes.{row, refuse, whole, walk_start, Walked, ended, stopped, moved, steps, children_in}
 use Rattle.plan.proofs.Sound.{TreeOf}
 use Rattle.plan.proofs.Axes.{tree_of, given_by, walk_sound, walk_refused, walk_stays}
@@ -27,23 +27,21 @@ stepping_is zero w = refl
 stepping_is (suc k) w = ap (λ (l : List Walked). step_of w ∷ l) (stepping_is k (after w))
 
 -- ---- a walk that has started at row r
-module _ (c : Columns) (r : ℕ) (b : Started) (starts : Starts b c r) where
+module _ (D L : List ℕ) (size : Bor (List ℕ)) (r : ℕ) (b : Started)
+    (starts : Starts b D size L r) where
   abbrev t : Table
-  t = read c
-
-  abbrev size : List ℕ
-  size = c.size.now
+  t = table D size.now L
 
   steps_of : (k : ℕ) →
       let s = walk_start t r in
-      stepping k b.walker ≡ steps k size s.next s.end
+      stepping k b.walker ≡ steps k size.now s.next s.end
   steps_of k = ap (stepping k) starts.1 ∙ stepping_is k _
 
   -- on a sound table: exactly the children, in order, and then none
-  pub walker_sound : (h : TreeOf t) → r < length size → (j : ℕ) →
+  pub walker_sound : (h : TreeOf t) → r < length size.now → (j : ℕ) →
       let children = children_in (tree_of h) r in
       (row_told b.answer ≡ row r)
-      × (stepping (length children + j) b.walker ≡ map (given_by size) children ++ replicate j ended)
+      × (stepping (length children + j) b.walker ≡ map (given_by size.now) children ++ replicate j ended)
   walker_sound h l j =
       let w = walk_sound t h r l j in
       (starts.0 ∙ w.0, steps_of _ ∙ w.1)

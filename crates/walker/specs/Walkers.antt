@@ -2,10 +2,9 @@
 -- Assumes nothing.
 use Rattle.std.specs.Prelude.{ℕ, ◌≡◌, List, Option, Result}
 use Rattle.std.specs.Borrow.{Bor}
-use Rattle.plan.specs.declared.lent.Table.{Table}
 use Rattle.plan.specs.declared.Child.{Child}
 use Rattle.plan.specs.declared.refusal.Misfit.{Misfit}
-use Rattle.plan.specs.Table.{read}
+use Rattle.plan.specs.Table.{table}
 use Rattle.plan.specs.Axes.{Start, walk_start, Walked, moved, step}
 use Rattle.plan.specs.Told.{row_told, step_told}
 use Rattle.walker.specs.declared.walker.Walker.{Walker}
@@ -16,10 +15,10 @@ abbrev pub walker_at : Bor (List ℕ) → Start → Walker
 walker_at size s = record { size = size; next = s.next; end = s.end }
 
 -- the walk over the children of row r has started: its tests' answer, and the walker on the column lent
-abbrev pub Starts : Started → Table → (r : ℕ) → Type 0
-Starts s t r =
-    let start = walk_start (read t) r in
-    (row_told s.answer ≡ start.answer) × (s.walker ≡ walker_at t.size start)
+abbrev pub Starts : Started → (dist : List ℕ) (size : Bor (List ℕ)) (value : List ℕ) (r : ℕ) → Type 0
+Starts s dist size value r =
+    let start = walk_start (table dist size.now value) r in
+    (row_told s.answer ≡ start.answer) × (s.walker ≡ walker_at size start)
 
 -- what a walker's step gives
 abbrev pub step_of : Walker → Walked

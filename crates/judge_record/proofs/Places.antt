@@ -23,7 +23,7 @@ use Rattle.plan.proofs.Planned.{plan-sizes, plan-dists, plan-length}
 use Rattle.plan.proofs.OpenPlaces.{quick_exactly}
 use Rattle.table.specs.Shape.{Shaped}
 use Rattle.table.proofs.Parents.{shape_lengths}
-use Rattle.judge_record.specs.Trial.{quick_place, open_for}
+use Rattle.judge_record.specs.Trial.{quick_place, open_for, Faces}
 use Rattle.judge_record.specs.Way.{EndsLow}
 
 -- ---- on a sound table
@@ -59,12 +59,17 @@ module _ (dist size value : List ℕ) (h : T (sound (table dist size value))) wh
   insert-place p q = grind (arith, nat_tests, quick_open)
 
   -- what is read is what the record asks
-  pub read_place : (r : Record) (p : Place) → p.rows ≡ n → p.end ≡ old_pre (goes_on_at size r)
+  read_place : (r : Record) (p : Place) → p.rows ≡ n → p.end ≡ old_pre (goes_on_at size r)
       → p.opens ≡ open_for dist size r → p ≡ place_of f r
   unfolding place_of
   read_place r p a b c =
       let there = c ∙ ap (λ (x : Bool). is_insert r && x) (sym (insert-place r.location r.parent)) in
       rw (rows_are, sizes_are) (λ k. record { rows = a k; end = b k; opens = there k })
+
+-- whatever the values are
+pub faces_it : (dist size : List ℕ) (r : Record) (p : Place) → p.rows ≡ length size
+    → p.end ≡ old_pre (goes_on_at size r) → p.opens ≡ open_for dist size r → Faces dist size r p
+faces_it dist size r p a b c = record { faces = λ value h. read_place dist size value h r p a b c }
 
 -- a record's rows end at a row number
 pub row_ends : (dist size : List ℕ) (r : Record) → Shaped dist size → r.location < length size → EndsLow size r

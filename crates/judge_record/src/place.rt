@@ -40,7 +40,7 @@ fn end_of(size: &[u32], r: Record) -> OldPre
 }
 
 // What the record asks of the table.
-#[tactic(auto, using(table::proofs::Parents::shape_lengths))]
+#[tactic(auto, using(table::proofs::Parents::shape_lengths, crate::proofs::Places::faces_it))]
 pub fn place_of(dist: &[u32], size: &[u32], r: Record) -> Place
     requires { Shaped dist.now size.now }
     ensures { Faces dist.now size.now r result }
@@ -53,7 +53,7 @@ pub fn place_of(dist: &[u32], size: &[u32], r: Record) -> Place
 }
 
 // Test 5: an insert's location is an open place of its parent; another's is a row, and row 0 can only be renamed.
-#[tactic(auto, using(std::proofs::lemmas::Bool::Decides::nat_tests), unfolding(plan::specs::Records::located, plan::specs::Way::place_of))]
+#[tactic(auto, unfolding(plan::specs::Records::located, plan::specs::Way::place_of))]
 pub fn test_location(place: Place, r: Record) -> Result<(), Fault>
     ensures { RightPlace place r result }
 {

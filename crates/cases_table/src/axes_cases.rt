@@ -1,35 +1,30 @@
 // The axes.
 use crate::told;
 use out::{column, heading, worked};
-use plan::Found;
 use plan::lent::Table;
+use plan::refusal::RowRefusal;
 use std::io;
 use table::axes::{first_child, next_sibling, parent, subtree, subtree_top};
 
 // One answer, after its question.
-fn line(rt: &impl Print, question: &str, r: u32, f: Found) -> io::Result<()> {
+fn line(
+    rt: &impl Print,
+    question: &str,
+    r: u32,
+    a: Result<Option<usize>, RowRefusal>,
+) -> io::Result<()> {
     print!(rt; "{question} {r}: ")?;
-    told::found(rt, f)
+    told::found(rt, a)
 }
 
 // Every axis of row r.
 fn row(rt: &impl Print, t: Table, r: u32) -> io::Result<()> {
-    line(rt, "parent of", r, parent(t.dist, t.size, t.value, r))?;
-    line(
-        rt,
-        "first child of",
-        r,
-        first_child(t.dist, t.size, t.value, r),
-    )?;
-    line(
-        rt,
-        "next sibling of",
-        r,
-        next_sibling(t.dist, t.size, t.value, r),
-    )?;
-    line(rt, "subtree of", r, subtree_top(t.dist, t.size, t.value, r))?;
+    line(rt, "parent of", r, parent(t, r))?;
+    line(rt, "first child of", r, first_child(t, r))?;
+    line(rt, "next sibling of", r, next_sibling(t, r))?;
+    line(rt, "subtree of", r, subtree_top(t, r).map(|x| Some(x)))?;
     print!(rt; "  values:")?;
-    column(rt, subtree(t.dist, t.size, t.value, r))?;
+    column(rt, subtree(t, r))?;
     println!(rt)
 }
 

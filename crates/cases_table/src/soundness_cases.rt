@@ -11,9 +11,9 @@ use table::sound::{is_sound, soundness};
 // What is said of one table, after its name.
 fn case(rt: &impl Print, name: &str, t: Table) -> io::Result<()> {
     print!(rt; "{name}: ")?;
-    told::answer(rt, soundness(t.dist, t.size, t.value))?;
+    told::answer(rt, soundness(t))?;
     print!(rt; "  first bad row: ")?;
-    told::shape(rt, first_bad(t.dist, t.size))
+    told::row(rt, first_bad(t.dist, t.size))
 }
 
 // Are rows f to e of the insertions a run that is sound by itself?
@@ -22,7 +22,12 @@ fn run(rt: &impl Print, f: usize, e: usize) -> io::Result<()>
     requires within { e ≤ 3 }
 {
     let i = worked::INSERTIONS;
-    let sound = is_sound(&i.dist[f..e], &i.size[f..e], &i.value[f..e]);
+    let part = Table {
+        dist: &i.dist[f..e],
+        size: &i.size[f..e],
+        value: &i.value[f..e],
+    };
+    let sound = is_sound(part);
     let told = if sound { "sound" } else { "not sound" };
     println!(rt; "insertions from {f} to {e}: {told}")
 }

@@ -9,19 +9,25 @@ use table::walk::{start_walk, step};
 fn steps(rt: &impl Print, size: &[u32], start: usize, end: usize, count: u32) -> io::Result<()> {
     let mut next = start;
     for _ in 0..count {
-        next = told::step(rt, step(size, next, end), next)?;
+        let answer = step(size, next, end);
+        told::step(rt, answer)?;
+        if let Ok(Some(child)) = answer {
+            next = child.next;
+        }
     }
     Ok(())
 }
 
-// The walk over the children of row r, for so many steps.
+// The walk over the children of row r, for so many steps: a walk that is refused has no child to give.
 fn walk(rt: &impl Print, t: Table, r: u32, count: u32) -> io::Result<()> {
-    let start = start_walk(t.dist, t.size, t.value, r);
     print!(rt; "walk over the children of {r}: ")?;
-    let answer = start.answer;
-    told::found(rt, answer)?;
+    let (answer, next, end) = match start_walk(t, r) {
+        Ok(span) => (Ok(span.top), span.next, span.end),
+        Err(e) => (Err(e), 0, 0),
+    };
+    told::start(rt, answer)?;
     print!(rt; "  steps:")?;
-    steps(rt, t.size, start.next, start.end, count)?;
+    steps(rt, t.size, next, end, count)?;
     println!(rt)
 }
 

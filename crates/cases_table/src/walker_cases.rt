@@ -7,14 +7,13 @@ use walker::walker::Walker;
 
 // The walk over the children of row r, for three steps.
 fn walk(rt: &impl Print, t: Table, r: u32) -> io::Result<()> {
-    let started = Walker::new(t.dist, t.size, t.value, r);
+    let started = Walker::new(t, r);
     let mut walker = started.walker;
-    let answer = started.answer;
     print!(rt; "walker over the children of {r}: ")?;
-    told::found(rt, answer)?;
+    told::start(rt, started.answer)?;
     print!(rt; "  steps:")?;
     for _ in 0..3 {
-        told::step(rt, walker.step(), 0)?;
+        told::step(rt, walker.step())?;
     }
     println!(rt)
 }

@@ -1,4 +1,5 @@
-// The climb: the check of a table's shape row by row, which knows the first bad row.
+// The climb: the check of a table's shape row by row, which knows the first bad row. The values have no part in it, so
+// it takes the two columns that it reads.
 ghost use Rattle.std.specs.Prelude.{◌≡◌, ◌+◌, ◌<◌, length};
 ghost use Rattle.plan.specs.Axes.{cell};
 ghost use Rattle.table.specs.Rows.{Ready, Inner, Fine, Rooted, Says};

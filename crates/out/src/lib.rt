@@ -1,24 +1,9 @@
-// For the programs that print cases: text and numbers to standard output, the worked plan, a flat table.
+// For the programs that print cases: a heading, a column, a flat table, the worked plan.
 #![tactic(auto)]
 
 use std::io;
 
 pub mod worked;
-
-// This text.
-pub fn text(rt: &impl Print, s: &str) -> io::Result<()> {
-    print!(rt; "{s}")
-}
-
-// A number, in decimal.
-pub fn number(rt: &impl Print, n: u64) -> io::Result<()> {
-    print!(rt; "{n}")
-}
-
-// This text, and a number.
-pub fn text_number(rt: &impl Print, s: &str, n: u64) -> io::Result<()> {
-    print!(rt; "{s}{n}")
-}
 
 // A heading, on a line of its own.
 pub fn heading(rt: &impl Print, s: &str) -> io::Result<()> {

@@ -1,6 +1,6 @@
 // The worked plan: the table T, the insertions, and its lists.
-use plan::lent::{Changes, Table};
 use plan::Record;
+use plan::lent::{Changes, Table};
 
 pub const TABLE: Table<'static> = Table {
     dist: &[1, 1, 1, 2, 4, 1, 6],

@@ -30,12 +30,12 @@ use Rattle.plan.proofs.Mapping.{rows_of, length-origins}
 use Rattle.plan.proofs.Following.{spliced}
 use Rattle.judge_record.specs.Way.{behind}
 use Rattle.judge_record.proofs.Ways.{ahead, Way, Turn, nothing, renames, here, rows_few, way_few, way_low, way_inside, last-ahead, all_rows}
-use Rattle.along.specs.Reached.{Reached, Meetable, met}
+use Rattle.along.specs.Reached.{Reached, met}
 use Rattle.along.specs.Laid.{rising}
 use Rattle.judge.proofs.Told.{failed-fails}
 use Rattle.along.proofs.Told.{list-refused, judged_told, test_refused, test_told}
 use Rattle.along.proofs.Laying.{laid, laid-append, laid-length, laid_front, rising-length, part-length, counted, filled}
-use Rattle.along.proofs.Reaching.{passes, reached-start, way, turned, meetable, reached-more, place-more, place-few}
+use Rattle.along.proofs.Reaching.{passes, reached-start, way, turned, reached-more, next, place_is}
 
 -- ---- rows of one paint, as numbers
 map-append : (f : Origin → ℕ) (xs ys : List Origin) → map f (xs ++ ys) ≡ map f xs ++ map f ys
@@ -82,11 +82,9 @@ module _ (t i : Table) (l : List Record) (u : Places) where
   abbrev laid_from : (Origin → ℕ) → ℕ → List ℕ → List ℕ
   laid_from f o v = laid (map f (drop o os)) v o
 
-  -- the columns have room, and are v now: with the origins of the rows to come laid over them, they are what was asked.
-  -- k records are passed
-  pub record Going (s : Stand) (k : ℕ) (v : Places) (rs : List Record) : Type 0 where
+  -- the columns have room, and are v now: with the origins of the rows to come laid over them, they are what was asked
+  pub record Going (s : Stand) (v : Places) (rs : List Record) : Type 0 where
     pub reached : Reached t i l s rs
-    pub place : k ≡ length reached.done
     pub even : length u.rows ≡ length u.records
     pub room : n ≤ length u.records
     pub record-long : length v.records ≡ length u.records
@@ -127,12 +125,11 @@ module _ (t i : Table) (l : List Record) (u : Places) where
           refused_so e (rw level (test_refused _ _ (leb n (length u.records)) 10 0 n m e h (rw needed at f)))
 
       pub going : (y : ⊤) → verdict_told (Ok y) ≡ test (leb m (length u.records)) 10 0 m
-          → (s : Stand) → s ≡ start → Going s 0 u l
+          → (s : Stand) → s ≡ start → Going s u l
       going y f s z =
           rw z
           (record {
             reached = reached-start t i l (judged_told _ _ true 10 0 m m h).0;
-            place = refl;
             even = q;
             room = rw needed at (leb-true m (length u.records) (test_told Passed m _ 10 0 m y f));
             record-long = refl;
@@ -165,17 +162,17 @@ module _ (t i : Table) (l : List Record) (u : Places) where
     pub row-inside : next.out.0 ≤ length v.rows
     pub few : s.row.0 + (next.out.0 - m - s.out.0) ≤ 4294967296
     pub behind : let first = next.out.0 - m in
-        Going next (k + 1)
+        Going next
         (places
         (laid (replicate (next.out.0 - first) k) (laid (replicate (first - s.out.0) mark) v.records s.out.0) first)
         (laid (rising (next.out.0 - first) 0) (laid (rising (first - s.out.0) s.row.0) v.rows s.out.0) first)) rs
 
   abbrev Step : Stand → ℕ → Places → List Record → Meeting → Type 0
-  Step s k v rs Vain = Going s (k + 1) v rs
-  Step s k v rs (Renamed next) = Going next (k + 1) v rs
+  Step s k v rs Vain = Going s v rs
+  Step s k v rs (Renamed next) = Going next v rs
   Step s k v rs (Here at m next) = Passing s k v rs m next
 
-  module _ (s : Stand) (k : ℕ) (v : Places) (r : Record) (rs : List Record) (h : Going s k v (r ∷ rs)) where
+  module _ (s : Stand) (v : Places) (r : Record) (rs : List Record) (h : Going s v (r ∷ rs)) where
     abbrev place : ℕ
     place = length h.reached.done
 
@@ -186,11 +183,10 @@ module _ (t i : Table) (l : List Record) (u : Places) where
     to_come q j ps w f c = ap (λ (os : List Origin). laid (map f os) c q.out.0) (sym w.to_come)
 
     told : {d : Meeting} → Turn t i l (passes t i l h.reached.passed) s place r rs d
-        → (q : Reached t i l (behind s d) rs) → k + 1 ≡ length q.done → Step s k v rs d
-    told (nothing w e) q f =
+        → Reached t i l (behind s d) rs → Step s place v rs d
+    told (nothing w e) q =
         record {
           reached = q;
-          place = f;
           even = h.even;
           room = h.room;
           record-long = h.record-long;
@@ -198,10 +194,9 @@ module _ (t i : Table) (l : List Record) (u : Places) where
           records = h.records;
           rows = h.rows;
         }
-    told (renames s' w a b e) q f =
+    told (renames s' w a b e) q =
         record {
           reached = q;
-          place = f;
           even = h.even;
           room = h.room;
           record-long = h.record-long;
@@ -209,7 +204,7 @@ module _ (t i : Table) (l : List Record) (u : Places) where
           records = rw b h.records;
           rows = rw b h.rows;
         }
-    told (here s' at m w a b d e) q f =
+    told (here s' at m w a b d e) q =
         let p = passes t i l h.reached.passed in
         let o = way t i l s (r ∷ rs) h.reached in
         let first : ℕ = s'.out.0 - m in
@@ -225,10 +220,9 @@ module _ (t i : Table) (l : List Record) (u : Places) where
           few = omega (arith, d, way_low t i l p s' (suc place) rs w);
           behind = record {
             reached = q;
-            place = f;
             even = h.even;
             room = h.room;
-            record-long = laid-length (replicate (s'.out.0 - first) k)
+            record-long = laid-length (replicate (s'.out.0 - first) place)
                 (laid (replicate (first - start) mark) v.records start) first
                 ∙ (laid-length (replicate (first - start) mark) v.records start ∙ h.record-long);
             row-long = laid-length (rising (s'.out.0 - first) 0)
@@ -236,12 +230,12 @@ module _ (t i : Table) (l : List Record) (u : Places) where
                 ∙ (laid-length (rising (first - start) s.row.0) v.rows start ∙ h.row-long);
             records = to_come s' (suc place) rs w record_of _
                 ∙ (sym (laid_splice record_of s.row.0 at place m _ (replicate (first - start) mark)
-                (replicate (s'.out.0 - first) k)
+                (replicate (s'.out.0 - first) place)
                 (rw front (records-same old mark (λ y. refl) s.row.0 (at - s.row.0)))
-                (rw (back, h.place) (records-same (new place) place (λ y. refl) 0 m)) v.records start first
+                (rw back (records-same (new place) place (λ y. refl) 0 m)) v.records start first
                 s'.out.0
                 (omega (arith, d, length-replicate (first - start) mark))
-                (omega (arith, d, length-replicate (s'.out.0 - first) k)))
+                (omega (arith, d, length-replicate (s'.out.0 - first) place)))
                 ∙ (ap (λ (os : List Origin). laid (map record_of os) v.records start) (sym e)
                 ∙ (sym (to_come s place (r ∷ rs) o record_of v.records) ∙ h.records)));
             rows = to_come s' (suc place) rs w row_of _
@@ -256,28 +250,26 @@ module _ (t i : Table) (l : List Record) (u : Places) where
           };
         }
 
-    stepped : Step s k v rs (met t.size i.size s r)
-    stepped =
-        told (turned t i l s r rs h.reached) (reached-more t i l s r rs h.reached)
-        (place-more t i l s r rs h.reached k h.place)
+    stepped : Step s place v rs (met t.size i.size s r)
+    stepped = told (turned t i l s r rs h.reached) (reached-more t i l s r rs h.reached)
 
   -- record k is next
-  module _ {s : Stand} {k : ℕ} {v : Places} {r : Record} (h : Going s k v (drop k l))
-      (e : drop k l ≡ r ∷ drop (suc k) l) where
-    next : Going s k v (r ∷ drop (suc k) l)
-    next = rw e at h
-
-    pub asks : Meetable t.size i.size s r
-    asks = meetable t i l s r (drop (suc k) l) next.reached
-
-    pub few-records : k < 1024
-    few-records = omega (arith, next.place, place-few t i l s r (drop (suc k) l) next.reached)
-
-    pub step : {m : Meeting} → m ≡ met t.size i.size s r → Step s k v (drop (k + 1) l) m
-    step {m} f =
-        let on : k + 1 ≡ suc k = omega arith in
-        rw f (subst (λ (j : ℕ). Step s k v (drop j l) (met t.size i.size s r)) (sym on)
-        (stepped s k v r (drop (suc k) l) next))
+  pub step : {s : Stand} (k : ℕ) {v : Places} {r : Record} {m : Meeting} → Going s v (drop k l)
+      → drop k l ≡ r ∷ drop (suc k) l → m ≡ met t.size i.size s r → Step s k v (drop (k + 1) l) m
+  step {s} k {v} {r} h e f =
+      let on : suc k ≡ k + 1 = omega arith in
+      let g : Going s v (r ∷ drop (suc k) l) =
+      record {
+        reached = next t i l s k r h.reached e;
+        even = h.even;
+        room = h.room;
+        record-long = h.record-long;
+        row-long = h.row-long;
+        records = h.records;
+        rows = h.rows;
+      } in
+      rw f (subst (λ (j : ℕ). Step s k v (drop j l) (met t.size i.size s r)) on
+      (rw (place_is t i l s k r h.reached e) at (stepped s v r (drop (suc k) l) g)))
 
   -- what is written at it
   module _ {s next : Stand} {k : ℕ} {v : Places} {rs : List Record} {m : ℕ} (h : Passing s k v rs m next) where
@@ -334,14 +326,14 @@ module _ (t i : Table) (l : List Record) (u : Places) where
         → b ≡ replicate (length (take (next.out.0 - first) (drop first (olds e)))) k
         → (f : c ≡ rising (length (take (first - s.out.0) (drop s.out.0 v.rows))) s.row.0)
         → d ≡ rising (length (take (next.out.0 - first) (drop first (counts f)))) 0
-        → Going next (k + 1)
+        → Going next
         (places (put_mid first (next.out.0 - first) (olds e) b) (put_mid first (next.out.0 - first) (counts f) d)) rs
     went_on e x f y =
-        subst (λ (w : Places). Going next (k + 1) w rs) (λ j. places (sym (run-records e x) j) (sym (run-rows f y) j))
+        subst (λ (w : Places). Going next w rs) (λ j. places (sym (run-records e x) j) (sym (run-rows f y) j))
         h.behind
 
   -- ---- the end
-  module _ {s : Stand} {k : ℕ} {v : Places} (g : Going s k v (drop k l)) (q : length l ≤ k) where
+  module _ {s : Stand} {k : ℕ} {v : Places} (g : Going s v (drop k l)) (q : length l ≤ k) where
     abbrev end : ℕ
     end = s.out.0 + (length t.size - s.row.0)
 
@@ -356,7 +348,7 @@ module _ (t i : Table) (l : List Record) (u : Places) where
           → NewDone true t i l u (accepted end)
           (places (put_mid s.out.0 (end - s.out.0) v.records a) (put_mid s.out.0 (end - s.out.0) v.rows b))
 
-    h : Going s k v []
+    h : Going s v []
     h = rw drop_all at g
 
     -- one column: f reads an origin, and the old rows behind the last record as A

@@ -3,7 +3,7 @@
 -- Assumes nothing.
 use Prim.Native.Nat.{ℕ, suc, ◌+◌, ◌-◌, ◌≤◌, ◌<◌}
 use native.Mathlib.Omega.{arith}
-use mathlib.Core.Path.{◌≡◌, refl, sym, ap, ◌∙◌, subst}
+use mathlib.Core.Path.{◌≡◌, ap, subst}
 use mathlib.Core.Bool.{true, ◌&&◌}
 use mathlib.Core.List.{List, [], ◌∷◌}
 use lib.Dec.{ltb}
@@ -30,10 +30,10 @@ use Rattle.plan.specs.Told.{failed, was_told, judgement_told, verdict_told}
 use Rattle.plan.proofs.Judged.{accepted-judged}
 use Rattle.judge_record.specs.Way.{behind}
 use Rattle.judge_record.proofs.Ways.{Turn, nothing, renames, here, way_low}
-use Rattle.along.specs.Reached.{Reached, Meetable, met}
+use Rattle.along.specs.Reached.{Reached, met}
 use Rattle.judge.proofs.Told.{failed-fails}
 use Rattle.along.proofs.Told.{list-refused, judged_told, test_refused, test_told}
-use Rattle.along.proofs.Reaching.{passes, reached-start, way, turned, meetable, reached-more, place-more, place-few, here-old, here-run, last-old}
+use Rattle.along.proofs.Reaching.{passes, reached-start, way, turned, reached-more, next, place_is, here-old, here-run, last-old}
 
 module _ (x : ℕ) (t i : Table) (l : List Record) where
   abbrev rows : ℕ
@@ -43,10 +43,9 @@ module _ (x : ℕ) (t i : Table) (l : List Record) where
   abbrev pub Right : Was → Type 0
   Right b = b ≡ was (queried true t i l rows x) (origin_at (origins (result t i l)) x)
 
-  -- the row goes on: it is not passed, k records are, and the records rs are left
-  pub record Going (s : Stand) (k : ℕ) (rs : List Record) : Type 0 where
+  -- the row goes on: it is not passed, and the records rs are left
+  pub record Going (s : Stand) (rs : List Record) : Type 0 where
     pub reached : Reached t i l s rs
-    pub place : k ≡ length reached.done
     pub ahead : s.out.0 ≤ x
     pub below : x < rows
 
@@ -66,13 +65,12 @@ module _ (x : ℕ) (t i : Table) (l : List Record) where
         let needed = (judged_told _ _ (ltb x n) 11 x 0 n h).1 in
         refused_so e (test_refused _ _ _ 11 x 0 n e h (rw needed at f))
 
-    pub going : (y : ⊤) → verdict_told (Ok y) ≡ test (ltb x n) 11 x 0 → (s : Stand) → s ≡ start → Going s 0 l
+    pub going : (y : ⊤) → verdict_told (Ok y) ≡ test (ltb x n) 11 x 0 → (s : Stand) → s ≡ start → Going s l
     going y f s z =
         let told = judged_told _ _ (ltb x n) 11 x 0 n h in
         rw z
         (record {
           reached = reached-start t i l told.0;
-          place = refl;
           ahead = omega arith;
           below = omega (arith, ltb-true x n (test_told Passed n _ 11 x 0 y f), told.1);
         })
@@ -83,9 +81,9 @@ module _ (x : ℕ) (t i : Table) (l : List Record) where
   followed tests b o e = rw (tests, lt-ltb x rows b, e)
 
   -- the row is not passed, and its old number fits
-  pub fits : {s : Stand} {k : ℕ} {rs : List Record} → Going s k rs
+  pub fits : {s : Stand} {rs : List Record} → Going s rs
       → (s.out.0 ≤ x) × (s.row.0 + (x - s.out.0) < 4294967296)
-  fits {s} {k} {rs} h =
+  fits {s} {rs} h =
       let p = passes t i l h.reached.passed in (
         h.ahead,
         omega (
@@ -102,66 +100,52 @@ module _ (x : ℕ) (t i : Table) (l : List Record) where
     pub run : n ≤ next.out.0
     pub before : x < next.out.0 - n → Right (Old (old_pre (s.row.0 + (x - s.out.0))))
     pub within : next.out.0 - n ≤ x → x < next.out.0 → Right (Run k (x - (next.out.0 - n)))
-    pub behind : next.out.0 ≤ x → Going next (k + 1) rs
+    pub behind : next.out.0 ≤ x → Going next rs
 
   abbrev Step : Stand → ℕ → List Record → Meeting → Type 0
-  Step s k rs Vain = Going s (k + 1) rs
-  Step s k rs (Renamed next) = Going next (k + 1) rs
+  Step s k rs Vain = Going s rs
+  Step s k rs (Renamed next) = Going next rs
   Step s k rs (Here at n next) = Passing s k rs n next
 
-  module _ (s : Stand) (k : ℕ) (r : Record) (rs : List Record) (h : Going s k (r ∷ rs)) where
-    told : {m : Meeting} → Turn t i l (passes t i l h.reached.passed) s (length h.reached.done) r rs m
-        → (q : Reached t i l (behind s m) rs) → k + 1 ≡ length q.done → Step s k rs m
-    told (nothing v e) q f = record { reached = q; place = f; ahead = h.ahead; below = h.below }
-    told (renames s' v a b e) q f =
-        record {
-          reached = q;
-          place = f;
-          ahead = omega (arith, ap (λ (o : NewPre). o.0) b, h.ahead);
-          below = h.below;
-        }
-    told (here s' at n v a b c e) q f =
+  module _ (s : Stand) (r : Record) (rs : List Record) (h : Going s (r ∷ rs)) where
+    abbrev place : ℕ
+    place = length h.reached.done
+
+    told : {m : Meeting} → Turn t i l (passes t i l h.reached.passed) s place r rs m
+        → Reached t i l (behind s m) rs → Step s place rs m
+    told (nothing v e) q = record { reached = q; ahead = h.ahead; below = h.below }
+    told (renames s' v a b e) q =
+        record { reached = q; ahead = omega (arith, ap (λ (o : NewPre). o.0) b, h.ahead); below = h.below }
+    told (here s' at n v a b c e) q =
         let p = passes t i l h.reached.passed in
         let w = way t i l s (r ∷ rs) h.reached in
-        let j : ℕ = length h.reached.done in
-        let first : ℕ = s'.out.0 - n in
         record {
           run = omega (arith, c);
           before = λ z. followed h.reached.passed h.below (old (s.row.0 + (x - s.out.0)))
-              (here-old t i l p s s' j r rs at n w v a b c e x h.ahead z);
-          within = λ z y. followed h.reached.passed h.below (new k (x - first))
-              (here-run t i l p s s' j r rs at n w v a b c e x h.ahead z y
-              ∙ ap (λ (o : ℕ). new o (x - first)) (sym h.place));
-          behind = λ y. record { reached = q; place = f; ahead = y; below = h.below };
+              (here-old t i l p s s' place r rs at n w v a b c e x h.ahead z);
+          within = λ z y. followed h.reached.passed h.below (new place (x - (s'.out.0 - n)))
+              (here-run t i l p s s' place r rs at n w v a b c e x h.ahead z y);
+          behind = λ y. record { reached = q; ahead = y; below = h.below };
         }
 
-    stepped : Step s k rs (met t.size i.size s r)
-    stepped =
-        told (turned t i l s r rs h.reached) (reached-more t i l s r rs h.reached)
-        (place-more t i l s r rs h.reached k h.place)
+    stepped : Step s place rs (met t.size i.size s r)
+    stepped = told (turned t i l s r rs h.reached) (reached-more t i l s r rs h.reached)
 
   -- record k is next
-  module _ {s : Stand} {k : ℕ} {r : Record} (h : Going s k (drop k l)) (e : drop k l ≡ r ∷ drop (suc k) l) where
-    next : Going s k (r ∷ drop (suc k) l)
-    next = rw e at h
-
-    pub asks : Meetable t.size i.size s r
-    asks = meetable t i l s r (drop (suc k) l) next.reached
-
-    pub few-records : k < 1024
-    few-records = omega (arith, next.place, place-few t i l s r (drop (suc k) l) next.reached)
-
-    pub step : {m : Meeting} → m ≡ met t.size i.size s r → Step s k (drop (k + 1) l) m
-    step {m} f =
-        let on : k + 1 ≡ suc k = omega arith in
-        rw f (subst (λ (j : ℕ). Step s k (drop j l) (met t.size i.size s r)) (sym on)
-        (stepped s k r (drop (suc k) l) next))
+  pub step : {s : Stand} (k : ℕ) {r : Record} {m : Meeting} → Going s (drop k l) → drop k l ≡ r ∷ drop (suc k) l
+      → m ≡ met t.size i.size s r → Step s k (drop (k + 1) l) m
+  step {s} k {r} h e f =
+      let on : suc k ≡ k + 1 = omega arith in
+      let g : Going s (r ∷ drop (suc k) l) =
+      record { reached = next t i l s k r h.reached e; ahead = h.ahead; below = h.below } in
+      rw f (subst (λ (j : ℕ). Step s k (drop j l) (met t.size i.size s r)) on
+      (rw (place_is t i l s k r h.reached e) at (stepped s r (drop (suc k) l) g)))
 
   -- ---- the end
-  pub last : {s : Stand} {k : ℕ} → Going s k (drop k l) → length l ≤ k
+  pub last : {s : Stand} (k : ℕ) → Going s (drop k l) → length l ≤ k
       → Right (Old (old_pre (s.row.0 + (x - s.out.0))))
-  last {s} {k} g m =
-      let h : Going s k [] = rw drop_all at g in
+  last {s} k g m =
+      let h : Going s [] = rw drop_all at g in
       followed h.reached.passed h.below (old (s.row.0 + (x - s.out.0)))
       (last-old t i l (passes t i l h.reached.passed) s (length h.reached.done)
       (way t i l s [] h.reached) x h.ahead h.below)

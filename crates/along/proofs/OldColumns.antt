@@ -8,10 +8,10 @@ use mathlib.Core.Bool.{true, ◌&&◌}
 use mathlib.Core.List.{List, [], ◌∷◌, ◌++◌}
 use lib.Dec.{leb}
 use lib.ListN.{length, take, drop, replicate, length-replicate}
-use borrow.Author.Tests.{le-leb, leb-true}
+use borrow.Author.Tests.{le-leb}
 use borrow.Rule.Slice.PartMut.{put_mid}
 use Rattle.std.proofs.lemmas.List.{drop_all}
-use Rattle.std.specs.Prelude.{Ok, Err, ⊤}
+use Rattle.std.specs.Prelude.{Ok, Err}
 use Rattle.plan.specs.declared.Record.{Record}
 use Rattle.plan.specs.declared.Stand.{Stand}
 use Rattle.plan.specs.declared.Meeting.{Meeting}
@@ -21,18 +21,17 @@ use Rattle.plan.specs.declared.refusal.Refusal.{Refusal}
 use Rattle.plan.specs.Answer.{accepted}
 use Rattle.plan.specs.Table.{Table, even}
 use Rattle.plan.specs.Paint.{Origin, origins}
-use Rattle.plan.specs.Way.{start}
 use Rattle.plan.specs.Call.{result, judged, published_of, test}
 use Rattle.plan.specs.Mapping.{row, gone, fate, mark, new_numbers, mapped, old_verdict, OldDone}
 use Rattle.plan.specs.Told.{failed, answer_told, judgement_told, verdict_told}
 use Rattle.judge_record.specs.Way.{behind}
 use Rattle.judge_record.proofs.Ways.{Turn, nothing, renames, here, rows_few, way_few, way_inside}
-use Rattle.along.specs.Reached.{Reached, Meetable, met}
+use Rattle.along.specs.Reached.{Reached, met}
 use Rattle.along.specs.Laid.{rising}
 use Rattle.judge.proofs.Told.{failed-fails}
-use Rattle.along.proofs.Told.{list-refused, judged_told, test_refused, test_told}
+use Rattle.along.proofs.Told.{list-refused, test_refused}
 use Rattle.along.proofs.Laying.{laid, laid-append, laid-length, laid_front, rising-length, part-length, counted, filled}
-use Rattle.along.proofs.Reaching.{passes, reached-start, way, turned, meetable, reached-more, here-row, here-gone, last_row}
+use Rattle.along.proofs.Reaching.{passes, way, turned, reached-more, here-row, here-gone, last_row}
 
 -- ---- the numbers of some rows
 module _ (os : List Origin) where
@@ -116,17 +115,6 @@ module _ (t i : Table) (l : List Record) (u : List ℕ) where
     unfolding mapped
     room_refused e f = refused_so e (test_refused _ _ _ 10 0 n m e h f)
 
-    pub going : (y : ⊤) → verdict_told (Ok y) ≡ test (leb n (length u)) 10 0 n → (s : Stand) → s ≡ start
-        → Going s u l
-    going y f s z =
-        rw z
-        (record {
-          reached = reached-start t i l (judged_told _ _ (leb n (length u)) 10 0 n m h).0;
-          room = leb-true n (length u) (test_told Passed m _ 10 0 n y f);
-          long = refl;
-          still = refl;
-        })
-
   written : judged (even t && even i) t i l ≡ Passed → n ≤ length u → (w : List ℕ) → w ≡ laid (numbers_from 0) u 0
       → OldDone true t i l u (accepted n) w
   unfolding mapped
@@ -187,18 +175,11 @@ module _ (t i : Table) (l : List Record) (u : List ℕ) where
     stepped = told (turned t i l s r rs h.reached) (reached-more t i l s r rs h.reached)
 
   -- record k is next
-  module _ {s : Stand} {v : List ℕ} (k : ℕ) {r : Record} (h : Going s v (drop k l))
-      (e : drop k l ≡ r ∷ drop (suc k) l) where
-    next : Going s v (r ∷ drop (suc k) l)
-    next = rw e at h
-
-    pub asks : Meetable t.size i.size s r
-    asks = meetable t i l s r (drop (suc k) l) next.reached
-
-    pub step : {m : Meeting} → m ≡ met t.size i.size s r → Step s v (drop (k + 1) l) m
-    step {m} f =
-        let on : k + 1 ≡ suc k = omega arith in
-        rw (f, on) (stepped s v r (drop (suc k) l) next)
+  pub step : {s : Stand} {v : List ℕ} (k : ℕ) {r : Record} {m : Meeting} → Going s v (drop k l)
+      → drop k l ≡ r ∷ drop (suc k) l → m ≡ met t.size i.size s r → Step s v (drop (k + 1) l) m
+  step {s} {v} k {r} h e f =
+      let on : k + 1 ≡ suc k = omega arith in
+      rw (f, on) (stepped s v r (drop (suc k) l) (rw e at h))
 
   -- what is written at it
   module _ {s next : Stand} {v : List ℕ} {rs : List Record} {at : ℕ} (h : Passing s v rs at next) {a : List ℕ}

@@ -3,14 +3,14 @@
 -- Assumes nothing.
 use Prim.Native.Nat.{ℕ, suc, ◌+◌, ◌-◌, ◌≤◌, ◌<◌}
 use native.Mathlib.Omega.{arith}
-use mathlib.Core.Path.{◌≡◌, ap, subst}
+use mathlib.Core.Path.{◌≡◌, ap}
 use mathlib.Core.Bool.{true, ◌&&◌}
 use mathlib.Core.List.{List, [], ◌∷◌}
 use lib.Dec.{ltb}
 use lib.ListN.{length, drop}
 use Rattle.std.proofs.lemmas.List.{drop_all}
-use borrow.Author.Tests.{lt-ltb, ltb-true}
-use Rattle.std.specs.Prelude.{Ok, Err, ⊤}
+use borrow.Author.Tests.{lt-ltb}
+use Rattle.std.specs.Prelude.{Ok, Err}
 use Rattle.plan.specs.declared.OldPre.{OldPre}
 use Rattle.plan.specs.declared.Record.{Record}
 use Rattle.plan.specs.declared.Stand.{Stand}
@@ -22,16 +22,16 @@ use Rattle.plan.specs.declared.Verdict.TheVariants.{Passed}
 use Rattle.plan.specs.declared.refusal.Refusal.{Refusal}
 use Rattle.plan.specs.Table.{Table, even}
 use Rattle.plan.specs.Paint.{origins}
-use Rattle.plan.specs.Way.{new_pre, start}
+use Rattle.plan.specs.Way.{new_pre}
 use Rattle.plan.specs.Call.{result, judged, published_of, test}
 use Rattle.plan.specs.Mapping.{Fate, row, gone, fate, queried, went, became}
 use Rattle.plan.specs.Told.{failed, became_told, judgement_told, verdict_told}
 use Rattle.judge_record.specs.Way.{behind}
 use Rattle.judge_record.proofs.Ways.{Turn, nothing, renames, here, rows_few, way_few}
-use Rattle.along.specs.Reached.{Reached, Meetable, met}
+use Rattle.along.specs.Reached.{Reached, met}
 use Rattle.judge.proofs.Told.{failed-fails}
-use Rattle.along.proofs.Told.{list-refused, judged_told, test_refused, test_told}
-use Rattle.along.proofs.Reaching.{passes, reached-start, way, turned, meetable, reached-more, here-row, here-gone, last_row}
+use Rattle.along.proofs.Told.{list-refused, test_refused}
+use Rattle.along.proofs.Reaching.{passes, way, turned, reached-more, here-row, here-gone, last_row}
 
 module _ (x : ℕ) (t i : Table) (l : List Record) where
   -- the answer is right
@@ -58,16 +58,6 @@ module _ (x : ℕ) (t i : Table) (l : List Record) where
         → Right (became_told (Err e))
     unfolding queried
     row_refused e f = refused_so e (test_refused _ _ _ 11 x 0 n e h f)
-
-    pub going : (y : ⊤) → verdict_told (Ok y) ≡ test (ltb x (length t.size)) 11 x 0 → (s : Stand) → s ≡ start
-        → Going s l
-    going y f s z =
-        rw z
-        (record {
-          reached = reached-start t i l (judged_told _ _ (ltb x (length t.size)) 11 x 0 n h).0;
-          ahead = omega arith;
-          below = ltb-true x (length t.size) (test_told Passed n _ 11 x 0 y f);
-        })
 
   followed : judged (even t && even i) t i l ≡ Passed → x < length t.size
       → (f : Fate) → fate (origins (result t i l)) 0 x ≡ f → Right (went f)
@@ -121,14 +111,11 @@ module _ (x : ℕ) (t i : Table) (l : List Record) where
     stepped = told (turned t i l s r rs h.reached) (reached-more t i l s r rs h.reached)
 
   -- record k is next
-  module _ {s : Stand} (k : ℕ) {r : Record} (h : Going s (drop k l)) (e : drop k l ≡ r ∷ drop (suc k) l) where
-    pub asks : Meetable t.size i.size s r
-    asks = meetable t i l s r (drop (suc k) l) (subst (Reached t i l s) e h.reached)
-
-    pub step : {m : Meeting} → m ≡ met t.size i.size s r → Step s (drop (k + 1) l) m
-    step {m} f =
-        let on : k + 1 ≡ suc k = omega arith in
-        rw (f, on) (stepped s r (drop (suc k) l) (rw e at h))
+  pub step : {s : Stand} (k : ℕ) {r : Record} {m : Meeting} → Going s (drop k l) → drop k l ≡ r ∷ drop (suc k) l
+      → m ≡ met t.size i.size s r → Step s (drop (k + 1) l) m
+  step {s} k {r} h e f =
+      let on : k + 1 ≡ suc k = omega arith in
+      rw (f, on) (stepped s r (drop (suc k) l) (rw e at h))
 
   -- ---- the end
   pub last : {s : Stand} (k : ℕ) → Going s (drop k l) → length l ≤ k

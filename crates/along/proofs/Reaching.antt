@@ -6,21 +6,19 @@ use native.Mathlib.Omega.{arith}
 use mathlib.Core.Path.{◌≡◌, refl, sym, ap, ◌∙◌, subst}
 use mathlib.Core.Bool.{◌&&◌}
 use mathlib.Core.List.{List, [], ◌∷◌, ◌++◌, append_assoc}
-use lib.ListN.{length, length-append}
+use lib.ListN.{length, drop, length-append, length-drop}
 use Rattle.plan.specs.declared.OldPre.{OldPre}
 use Rattle.plan.specs.declared.Record.{Record}
 use Rattle.plan.specs.declared.Stand.{Stand}
 use Rattle.plan.specs.declared.Meeting.{Meeting}
-use Rattle.plan.specs.declared.Meeting.TheVariants.{Vain, Renamed, Here}
 use Rattle.plan.specs.declared.Verdict.TheVariants.{Passed}
 use Rattle.plan.specs.Tree.{count}
 use Rattle.plan.specs.Table.{Table, even}
 use Rattle.plan.specs.Paint.{Origin, old, new, origins}
-use Rattle.plan.specs.Records.{is_rename}
-use Rattle.plan.specs.Way.{old_pre, vain, brought, goes_on_at, start, meeting}
+use Rattle.plan.specs.Way.{old_pre, brought, goes_on_at, start, meeting}
 use Rattle.plan.specs.Call.{result, judged}
 use Rattle.plan.specs.Mapping.{row, gone, fate, origin_at}
-use Rattle.plan.proofs.Kit.{T_and, cond_elim}
+use Rattle.plan.proofs.Kit.{T_and}
 use Rattle.plan.proofs.Judged.{accepted-judged}
 use Rattle.plan.proofs.FourKinds.{run-within}
 use Rattle.plan.proofs.AtRecord.{passed-fate}
@@ -37,28 +35,6 @@ module _ (size isize : List ℕ) (s : Stand) (r : Record) (n : ℕ) (f : n ≡ b
   pub met-is : (m : Meeting) (e : OldPre) → e ≡ old_pre (goes_on_at size r) → m ≡ meeting s r e.0 n
       → m ≡ met size isize s r
   met-is m e g h = h ∙ (λ c. meeting s r (g c).0 (f c))
-
--- its run's rows are the last before the next
-out_of : Meeting → ℕ
-out_of Vain = 0
-out_of (Renamed next) = 0
-out_of (Here at n next) = next.out.0
-
-run_of : Meeting → ℕ
-run_of Vain = 0
-run_of (Renamed next) = 0
-run_of (Here at n next) = n
-
-run-below : (s : Stand) (r : Record) (e n : ℕ) → run_of (meeting s r e n) ≤ out_of (meeting s r e n)
-unfolding run_of out_of
-run-below s r e n =
-    cond_elim (λ (m : Meeting). run_of m ≤ out_of m) (vain s.first.0 s.end.0 r) _ _ (λ a. omega arith)
-    (λ a. cond_elim (λ (m : Meeting). run_of m ≤ out_of m) (is_rename r) _ _ (λ b. omega arith) (λ b. omega arith))
-
-pub run_fits : (s : Stand) (r : Record) (e n : ℕ) (m : Meeting) → m ≡ meeting s r e n
-    → (at : OldPre) (k : ℕ) (next : Stand) → m ≡ Here at k next → k ≤ next.out.0
-unfolding run_of out_of
-run_fits s r e n m f at k next g = rw (← f, g) at (run-below s r e n)
 
 -- one record more
 pub stands-more : (size isize : List ℕ) (s : Stand) (ps : List Record) (r : Record)
@@ -101,7 +77,7 @@ module _ (t i : Table) (l : List Record) where
         (met t.size i.size s r)
     turned = turn t i l (passes h.passed) s (length h.done) r rs (way s (r ∷ rs) h)
 
-    pub meetable : Meetable t.size i.size s r
+    meetable : Meetable t.size i.size s r
     meetable =
         let p = passes h.passed in
         let w = way s (r ∷ rs) h in
@@ -121,12 +97,33 @@ module _ (t i : Table) (l : List Record) where
               ∙ sym (stands-more t.size i.size start h.done r);
         }
 
-    pub place-more : (k : ℕ) → k ≡ length h.done → k + 1 ≡ length (h.done ++ (r ∷ []))
-    place-more k e = omega (arith, length-append h.done (r ∷ []))
+  -- record k is next
+  module _ (s : Stand) (k : ℕ) (r : Record) (h : Reached t i l s (drop k l))
+      (e : drop k l ≡ r ∷ drop (suc k) l) where
+    abbrev pub next : Reached t i l s (r ∷ drop (suc k) l)
+    next =
+        record {
+          passed = h.passed;
+          done = h.done;
+          parts = h.parts ∙ ap (λ (rs : List Record). h.done ++ rs) e;
+          there = h.there;
+        }
 
-    pub place-few : length h.done < 1024
-    place-few =
-        omega (arith, (passes h.passed).few, ap length h.parts, length-append h.done (r ∷ rs))
+    pub asks : Meetable t.size i.size s r
+    asks = meetable s r (drop (suc k) l) next
+
+    pub place_is : length h.done ≡ k
+    place_is =
+        omega (
+          arith,
+          ap length next.parts,
+          length-append h.done (r ∷ drop (suc k) l),
+          length-drop k l,
+          ap length e,
+        )
+
+    pub few-records : k < 1024
+    few-records = omega (arith, (passes h.passed).few, length-drop k l, ap length e)
 
   -- ---- the rows up to a record at which old rows stay or go
   module _ (p : Passes t i l) (s s' : Stand) (j : ℕ) (r : Record) (rs : List Record) (at n : ℕ)

@@ -2,7 +2,8 @@
 -- there on left.
 use native.Mathlib.Omega.{arith}
 use Rattle.std.proofs.lemmas.Result.{err_from_is_err_and}
-use Rattle.along.proofs.NewColumns.{odd, list_refused, room_refused, going, asks, few-records, step, record-room, row_room, went_on, last}
+use Rattle.along.proofs.NewColumns.{odd, list_refused, room_refused, going, step, record-room, row_room, went_on, last}
+use Rattle.along.proofs.Reaching.{asks, few-records}
 use Rattle.along.proofs.every_new.map_new.Goals as goal
 use Rattle.along.proofs.every_new.map_new.Goals.{in-Vain, in-Renamed, in-Here}
 
@@ -25,39 +26,39 @@ loop-k-init g c =
     going _ _ _ _ c.if-rows-records.false _ c.in_ok-n.ensures _ c.in_ok-test_room.ensures _ c.start-s.ensures
 
 pub met-requires : goal.met-requires
-met-requires g c = asks _ _ _ _ c.loop-k.invariant c.record.ensures
+met-requires g c = asks _ _ _ _ _ _ c.loop-k.invariant.reached c.record.ensures
 
 pub slice_bounds-fill-end : goal.slice_bounds-fill-end
 slice_bounds-fill-end g c =
-    let s = step _ _ _ _ c.loop-k.invariant c.record.ensures c.in-Here.ensures in
+    let s = step _ _ _ _ _ c.loop-k.invariant c.record.ensures c.in-Here.ensures in
     omega (arith, s.run, s.record-inside)
 
 pub slice_bounds-fill-end-in-Here : goal.slice_bounds-fill-end-in-Here
 slice_bounds-fill-end-in-Here g c =
-    record-room _ _ _ _ (step _ _ _ _ c.loop-k.invariant c.record.ensures c.in-Here.ensures)
+    record-room _ _ _ _ (step _ _ _ _ _ c.loop-k.invariant c.record.ensures c.in-Here.ensures)
     (c.fill.ensures.after (λ y h. h))
 
 pub overflow_cast-k : goal.overflow_cast-k
-overflow_cast-k g c = omega (arith, few-records _ _ _ _ c.loop-k.invariant c.record.ensures)
+overflow_cast-k g c = omega (arith, few-records _ _ _ _ _ _ c.loop-k.invariant.reached c.record.ensures)
 
 pub slice_bounds-count_up-end : goal.slice_bounds-count_up-end
 slice_bounds-count_up-end g c =
-    let s = step _ _ _ _ c.loop-k.invariant c.record.ensures c.in-Here.ensures in
+    let s = step _ _ _ _ _ c.loop-k.invariant c.record.ensures c.in-Here.ensures in
     omega (arith, s.run, s.row-inside)
 
 pub slice_bounds-count_up-end-in-Here : goal.slice_bounds-count_up-end-in-Here
 slice_bounds-count_up-end-in-Here g c =
-    row_room _ _ _ _ (step _ _ _ _ c.loop-k.invariant c.record.ensures c.in-Here.ensures) c.count_up.ensures
+    row_room _ _ _ _ (step _ _ _ _ _ c.loop-k.invariant c.record.ensures c.in-Here.ensures) c.count_up.ensures
 
 pub loop-k-preserved : goal.loop-k-preserved
 loop-k-preserved g c =
     let inv = c.loop-k.invariant in
     elim c.match-met.branch [
-      | in-Vain w ↦ rw (w.s-is, w.records-is, w.rows-is) (step _ _ _ _ inv c.record.ensures w.in-Vain.ensures)
-      | in-Renamed w ↦ rw (w.s-is, w.records-is, w.rows-is) (step _ _ _ _ inv c.record.ensures w.in-Renamed.ensures)
+      | in-Vain w ↦ rw (w.s-is, w.records-is, w.rows-is) (step _ _ _ _ _ inv c.record.ensures w.in-Vain.ensures)
+      | in-Renamed w ↦ rw (w.s-is, w.records-is, w.rows-is) (step _ _ _ _ _ inv c.record.ensures w.in-Renamed.ensures)
       | in-Here w ↦
           rw (w.s-is, w.records-is, w.rows-is)
-          (went_on _ _ _ _ (step _ _ _ _ inv c.record.ensures w.in-Here.ensures)
+          (went_on _ _ _ _ (step _ _ _ _ _ inv c.record.ensures w.in-Here.ensures)
           (w.fill.ensures.after (λ y h. h)) (w.fill-in-Here.ensures.after (λ y h. h)) w.count_up.ensures
           w.count_up-in-Here.ensures)
     ]

@@ -10,4 +10,4 @@ abbrev pub invariant-loop-k : goal.invariant-loop-k
 invariant-loop-k g l =
     let rs = g.L.Records.list l.l in
     let u = places l.initial.records l.initial.rows in
-    Going (read l.t) (read l.i) rs u l.s l.k (places l.records l.rows) (drop l.k rs)
+    Going (read l.t) (read l.i) rs u l.s (places l.records l.rows) (drop l.k rs)

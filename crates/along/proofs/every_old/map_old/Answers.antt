@@ -2,7 +2,8 @@
 -- there on left.
 use native.Mathlib.Omega.{arith}
 use Rattle.std.proofs.lemmas.Result.{err_from_is_err_and}
-use Rattle.along.proofs.OldColumns.{list_refused, room_refused, asks, step, gone-inside, went_on, last}
+use Rattle.along.proofs.OldColumns.{list_refused, room_refused, step, gone-inside, went_on, last}
+use Rattle.along.proofs.Reaching.{asks}
 use Rattle.along.proofs.every_old.map_old.Goals as goal
 use Rattle.along.proofs.every_old.map_old.Goals.{in-Vain, in-Renamed, in-Here}
 
@@ -18,7 +19,7 @@ returns-in_err-test_room g c =
     rw (p.1, p.2) (room_refused _ _ _ _ _ c.in_ok-judged.ensures _ c.in_err-test_room.ensures)
 
 pub met-requires : goal.met-requires
-met-requires g c = asks _ _ _ _ _ c.loop-k.invariant c.record.ensures
+met-requires g c = asks _ _ _ _ _ _ c.loop-k.invariant.reached c.record.ensures
 
 pub slice_bounds-count_up-count : goal.slice_bounds-count_up-count
 slice_bounds-count_up-count g c = (step _ _ _ _ _ c.loop-k.invariant c.record.ensures c.in-Here.ensures).ahead

@@ -1,7 +1,8 @@
 -- `along::new_row::new_to_old` meets its contract.
 use native.Mathlib.Omega.{arith}
 use Rattle.std.proofs.lemmas.Result.{err_from_is_err_and}
-use Rattle.along.proofs.NewRows.{list_refused, row_refused, going, asks, few-records, step, fits, last}
+use Rattle.along.proofs.NewRows.{list_refused, row_refused, going, step, fits, last}
+use Rattle.along.proofs.Reaching.{asks, few-records}
 use Rattle.along.proofs.new_row.new_to_old.Goals as goal
 use Rattle.along.proofs.new_row.new_to_old.Goals.{in-Vain, in-Renamed, in-Here+else-row-first+else-row-goes}
 
@@ -20,35 +21,35 @@ pub loop-k-init : goal.loop-k-init
 loop-k-init g c = going _ _ _ _ _ c.in_ok-n.ensures _ c.in_ok-test_row.ensures _ c.start-s.ensures
 
 pub met-requires : goal.met-requires
-met-requires g c = asks _ _ _ _ c.loop-k.invariant c.record.ensures
+met-requires g c = asks _ _ _ _ _ _ c.loop-k.invariant.reached c.record.ensures
 
 pub overflow_sub-first : goal.overflow_sub-first
-overflow_sub-first g c = (step _ _ _ _ c.loop-k.invariant c.record.ensures c.in-Here.ensures).run
+overflow_sub-first g c = (step _ _ _ _ _ c.loop-k.invariant c.record.ensures c.in-Here.ensures).run
 
 pub returns-then-row-first : goal.returns-then-row-first
 returns-then-row-first g c =
-    (step _ _ _ _ c.loop-k.invariant c.record.ensures c.in-Here.ensures).before c.if-row-first.true
+    (step _ _ _ _ _ c.loop-k.invariant c.record.ensures c.in-Here.ensures).before (omega arith)
 
 pub returns-then-row-goes : goal.returns-then-row-goes
 returns-then-row-goes g c =
-    (step _ _ _ _ c.loop-k.invariant c.record.ensures c.in-Here.ensures).within c.if-row-first.false
-    c.if-row-goes.true
+    (step _ _ _ _ _ c.loop-k.invariant c.record.ensures c.in-Here.ensures).within (omega arith)
+    (omega arith)
 
 pub overflow_cast-result : goal.overflow_cast-result
-overflow_cast-result g c = omega (arith, few-records _ _ _ _ c.loop-k.invariant c.record.ensures)
+overflow_cast-result g c = omega (arith, few-records _ _ _ _ _ _ c.loop-k.invariant.reached c.record.ensures)
 
 pub loop-k-preserved : goal.loop-k-preserved
 loop-k-preserved g c =
     let inv = c.loop-k.invariant in
     elim c.match-met.branch [
-      | in-Vain w ↦ rw w.s-is (step _ _ _ _ inv c.record.ensures w.in-Vain.ensures)
-      | in-Renamed w ↦ rw w.s-is (step _ _ _ _ inv c.record.ensures w.in-Renamed.ensures)
+      | in-Vain w ↦ rw w.s-is (step _ _ _ _ _ inv c.record.ensures w.in-Vain.ensures)
+      | in-Renamed w ↦ rw w.s-is (step _ _ _ _ _ inv c.record.ensures w.in-Renamed.ensures)
       | in-Here+else-row-first+else-row-goes w ↦
-          rw w.s-is ((step _ _ _ _ inv c.record.ensures w.in-Here.ensures).behind w.if-row-goes.false)
+          rw w.s-is ((step _ _ _ _ _ inv c.record.ensures w.in-Here.ensures).behind (omega arith))
     ]
 
 pub overflow_add-result-2 : goal.overflow_add-result-2
 overflow_add-result-2 g c = omega (arith, (fits _ _ _ _ c.loop-k.invariant).1)
 
 pub returns : goal.returns
-returns g c = last _ _ _ _ c.loop-k.invariant (omega (arith, c.len-k-end.ensures))
+returns g c = last _ _ _ _ _ c.loop-k.invariant (omega (arith, c.len-k-end.ensures))

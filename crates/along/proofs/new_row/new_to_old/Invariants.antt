@@ -8,4 +8,4 @@ use Rattle.along.proofs.new_row.new_to_old.Given as goal
 abbrev pub invariant-loop-k : goal.invariant-loop-k
 invariant-loop-k g l =
     let rs = g.L.Records.list l.l in
-    Going l.row.0 (read l.t) (read l.i) rs l.s l.k (drop l.k rs)
+    Going l.row.0 (read l.t) (read l.i) rs l.s (drop l.k rs)

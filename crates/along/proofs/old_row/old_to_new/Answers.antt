@@ -1,7 +1,8 @@
 -- `along::old_row::old_to_new` meets its contract.
 use native.Mathlib.Omega.{arith}
 use Rattle.std.proofs.lemmas.Result.{err_from_is_err_and}
-use Rattle.along.proofs.OldRows.{list_refused, row_refused, asks, step, fits, last}
+use Rattle.along.proofs.OldRows.{list_refused, row_refused, step, fits, last}
+use Rattle.along.proofs.Reaching.{asks}
 use Rattle.along.proofs.old_row.old_to_new.Goals as goal
 use Rattle.along.proofs.old_row.old_to_new.Goals.{in-Vain, in-Renamed, in-Here+else-row-at+else-row-goes}
 
@@ -17,15 +18,15 @@ returns-in_err-test_row g c =
     rw (p.1, p.2) (row_refused _ _ _ _ _ c.in_ok-judged.ensures _ c.in_err-test_row.ensures)
 
 pub met-requires : goal.met-requires
-met-requires g c = asks _ _ _ _ _ c.loop-k.invariant c.record.ensures
+met-requires g c = asks _ _ _ _ _ _ c.loop-k.invariant.reached c.record.ensures
 
 pub returns-then-row-at : goal.returns-then-row-at
 returns-then-row-at g c =
-    (step _ _ _ _ _ c.loop-k.invariant c.record.ensures c.in-Here.ensures).before c.if-row-at.true
+    (step _ _ _ _ _ c.loop-k.invariant c.record.ensures c.in-Here.ensures).before (omega arith)
 
 pub returns-then-row-goes : goal.returns-then-row-goes
 returns-then-row-goes g c =
-    (step _ _ _ _ _ c.loop-k.invariant c.record.ensures c.in-Here.ensures).taken c.if-row-at.false c.if-row-goes.true
+    (step _ _ _ _ _ c.loop-k.invariant c.record.ensures c.in-Here.ensures).taken (omega arith) (omega arith)
 
 pub loop-k-preserved : goal.loop-k-preserved
 loop-k-preserved g c =
@@ -34,7 +35,7 @@ loop-k-preserved g c =
       | in-Vain w ↦ rw w.s-is (step _ _ _ _ _ inv c.record.ensures w.in-Vain.ensures)
       | in-Renamed w ↦ rw w.s-is (step _ _ _ _ _ inv c.record.ensures w.in-Renamed.ensures)
       | in-Here+else-row-at+else-row-goes w ↦
-          rw w.s-is ((step _ _ _ _ _ inv c.record.ensures w.in-Here.ensures).behind w.if-row-goes.false)
+          rw w.s-is ((step _ _ _ _ _ inv c.record.ensures w.in-Here.ensures).behind (omega arith))
     ]
 
 pub overflow_add-result-2 : goal.overflow_add-result-2

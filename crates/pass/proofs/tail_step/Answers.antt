@@ -1,10 +1,7 @@
 -- `pass::tail_step` meets its contract: the open row is closed, or the rows left under it are copied.
 -- Assumes nothing.
 use mathlib.Core.Path.{◌∙◌}
-use Prim.Native.Nat.{◌-◌}
-use Rattle.pass_moves.specs.Written.{out}
-use Rattle.plan.specs.Table.{table}
-use Rattle.pass.proofs.AtOnce.{sized-is, parent-ends, can_copy, copied, copied-kept, copied_less, can_close_it, closed, closed-kept, closed_less}
+use Rattle.pass.proofs.AtOnce.{parent-ends, can_copy, copied, copied-kept, copied_less, can_close_it, closed, closed-kept, closed_less}
 use Rattle.pass.proofs.tail_step.Goals as goal
 
 pub end-e-requires : goal.end-e-requires
@@ -16,13 +13,12 @@ close-requires c =
     let e = c.end-e.ensures in
     can_close_it c.requires.0.underway c.requires.1 (c.if-c-e.true ∙ e)
 
-pub returns-then-c-e : goal.returns-then-c-e
-returns-then-c-e c =
+pub returns-then-c-e-clause-copied : goal.returns-then-c-e-clause-copied
+returns-then-c-e-clause-copied c =
     let e = c.end-e.ensures in
     let h = c.if-c-e.true ∙ e in
     let k = c.close.ensures.result_value in
-    let x = table c.args.ndist.now c.args.nsize.now c.args.nvalue.now in
-    let u = sized-is x c.args.c.under.0 (out c.args.c - c.args.c.under.0) c.close.ensures.nsize_after in
+    let u = c.close.ensures.sized in
     let a = closed-kept c.requires.0.underway c.requires.1 h u k in (
       record {
         still = λ i l w U. closed U c.requires.1 h u k;
@@ -38,8 +34,8 @@ stretch-requires c =
     let e = c.end-e.ensures in
     can_copy c.requires.0.underway e
 
-pub returns : goal.returns
-returns c =
+pub returns-clause-copied : goal.returns-clause-copied
+returns-clause-copied c =
     let e = c.end-e.ensures in
     let k = c.stretch.ensures in
     let a = copied-kept c.requires.0.underway e c.if-c-e.false k.fact k.result_value in (

@@ -5,7 +5,6 @@ use Prim.Native.Nat.{◌<◌}
 use native.Mathlib.Omega.{arith}
 use mathlib.Core.Path.{refl, ◌∙◌}
 use Rattle.pass_moves.specs.Written.{out}
-use Rattle.plan.specs.Table.{table}
 use Rattle.pass_way.proofs.Steps.{parent-ends, can_close, went_close, can_stretch_on, went_all, some-rows-on, went-part}
 use Rattle.pass_way.proofs.step.Goals as goal
 use Rattle.pass_way.proofs.step.Goals.{Else-e-p}
@@ -25,18 +24,17 @@ pub close-requires : goal.close-requires
 close-requires c =
     can_close c.requires.0.ready c.requires.1 (c.if-c-e.true ∙ c.end-e.ensures)
 
-pub returns-then-c-e : goal.returns-then-c-e
-returns-then-c-e c =
-    let n = c.close.ensures.nsize_after in
-    went_close c.requires.1 (c.if-c-e.true ∙ c.end-e.ensures) (λ w. table c.args.ndist.now (n w) c.args.nvalue.now)
-    c.close.ensures.result_value c.requires.0
+pub returns-then-c-e-clause-went : goal.returns-then-c-e-clause-went
+returns-then-c-e-clause-went c =
+    went_close c.requires.1 (c.if-c-e.true ∙ c.end-e.ensures) c.close.ensures.sized c.close.ensures.result_value
+    c.requires.0
 
 pub stretch-k-requires : goal.stretch-k-requires
 stretch-k-requires c =
     can_stretch_on c.requires.1 c.end-e.ensures c.if-c-e.false c.nearer.ensures c.requires.0
 
-pub returns-then-e-p : goal.returns-then-e-p
-returns-then-e-p c =
+pub returns-then-e-p-clause-went : goal.returns-then-e-p-clause-went
+returns-then-e-p-clause-went c =
     let k = c.stretch-k.ensures in
     went_all c.requires.1 c.end-e.ensures c.if-c-e.false c.nearer.ensures k.fact k.result_value
     c.if-e-p.true c.requires.0
@@ -49,8 +47,8 @@ pub overflow_sub-result : goal.overflow_sub-result
 overflow_sub-result c =
     omega (arith, (some_rows (goal.at.overflow_sub-result c).Else-e-p).0)
 
-pub returns : goal.returns
-returns c =
+pub returns-clause-went : goal.returns-clause-went
+returns-clause-went c =
     let k = c.stretch-k.ensures in
     went-part c.requires.1 c.end-e.ensures c.if-c-e.false c.nearer.ensures k.fact k.result_value
     c.if-e-p.false refl c.requires.0

@@ -16,9 +16,9 @@ use Rattle.plan.specs.declared.Record.{Record}
 use Rattle.plan.specs.declared.Stand.{Stand}
 use Rattle.plan.specs.declared.Meeting.{Meeting}
 use Rattle.plan.specs.declared.Meeting.TheVariants.{Vain, Renamed, Here}
-use Rattle.plan.specs.declared.Was.{Was}
-use Rattle.plan.specs.declared.Was.TheVariants.{Old, Run}
-use Rattle.plan.specs.declared.Verdict.TheVariants.{Passed}
+use Rattle.plan.specs.Mapping.{Was}
+use Rattle.plan.specs.Mapping.{Old, Run}
+use Rattle.plan.specs.Verdict.{Passed}
 use Rattle.plan.specs.declared.refusal.Refusal.{Refusal}
 use Rattle.plan.specs.Tree.{count}
 use Rattle.plan.specs.Table.{Table, even}

@@ -16,7 +16,7 @@ use Rattle.plan.specs.declared.Record.{Record}
 use Rattle.plan.specs.declared.Stand.{Stand}
 use Rattle.plan.specs.declared.Meeting.{Meeting}
 use Rattle.plan.specs.declared.Meeting.TheVariants.{Vain, Renamed, Here}
-use Rattle.plan.specs.declared.Verdict.TheVariants.{Passed}
+use Rattle.plan.specs.Verdict.{Passed}
 use Rattle.plan.specs.declared.refusal.Refusal.{Refusal}
 use Rattle.plan.specs.Answer.{accepted}
 use Rattle.plan.specs.Table.{Table, even}

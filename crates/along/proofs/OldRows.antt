@@ -16,9 +16,9 @@ use Rattle.plan.specs.declared.Record.{Record}
 use Rattle.plan.specs.declared.Stand.{Stand}
 use Rattle.plan.specs.declared.Meeting.{Meeting}
 use Rattle.plan.specs.declared.Meeting.TheVariants.{Vain, Renamed, Here}
-use Rattle.plan.specs.declared.Became.{Became}
-use Rattle.plan.specs.declared.Became.TheVariants.{Row, Gone}
-use Rattle.plan.specs.declared.Verdict.TheVariants.{Passed}
+use Rattle.plan.specs.Mapping.{Became}
+use Rattle.plan.specs.Mapping.{Row, Gone}
+use Rattle.plan.specs.Verdict.{Passed}
 use Rattle.plan.specs.declared.refusal.Refusal.{Refusal}
 use Rattle.plan.specs.Table.{Table, even}
 use Rattle.plan.specs.Paint.{origins}

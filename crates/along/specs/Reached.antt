@@ -4,7 +4,7 @@ use Rattle.std.specs.Prelude.{ℕ, ◌<◌, ◌≡◌, ◌&&◌, List, ◌++◌,
 use Rattle.plan.specs.declared.Record.{Record}
 use Rattle.plan.specs.declared.Stand.{Stand}
 use Rattle.plan.specs.declared.Meeting.{Meeting}
-use Rattle.plan.specs.declared.Verdict.TheVariants.{Passed}
+use Rattle.plan.specs.Verdict.{Passed}
 use Rattle.plan.specs.Table.{Table, even}
 use Rattle.plan.specs.Way.{has_run, brought, goes_on_at, start, meeting}
 use Rattle.plan.specs.Call.{judged}

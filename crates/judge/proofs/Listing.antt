@@ -9,7 +9,7 @@ use lib.ListN.{length, drop}
 use Rattle.plan.specs.Table.{Table}
 use Rattle.plan.specs.Call.{judged, published}
 use Rattle.plan.specs.Lent.{Lent, level, record_at, listed, list}
-use Rattle.plan.specs.declared.Judgement.TheVariants.{Refused}
+use Rattle.plan.specs.Verdict.{Refused}
 
 -- ---- its records
 module _ (l : Lent) where

@@ -13,7 +13,7 @@ use Rattle.plan.specs.declared.Record.{Record}
 use Rattle.plan.specs.declared.Place.{Place}
 use Rattle.plan.specs.declared.Stand.{Stand}
 use Rattle.std.specs.Prelude.{⊤, Option, Some, None, Result, Ok, Err}
-use Rattle.plan.specs.declared.Verdict.TheVariants.{Passed, Failed}
+use Rattle.plan.specs.Verdict.{Passed, Failed}
 use Rattle.plan.specs.Tree.{Forest, count}
 use Rattle.plan.specs.Table.{Table, even, sound, most_rows}
 use Rattle.plan.specs.Paint.{Painted, old, plan}
@@ -28,8 +28,8 @@ use Rattle.judge_record.specs.Trial.{Even, RunTested, Faces, RightTrial}
 use Rattle.judge_record.specs.Way.{Meets, behind, stands}
 use Rattle.judge_record.proofs.Places.{sizes_are}
 use Rattle.judge_record.proofs.Ways.{Passes, Way, meets, way_at, way_inside, all_rows}
-use Rattle.plan.specs.declared.Judgement.{Judgement}
-use Rattle.plan.specs.declared.Judgement.TheVariants.{Refused}
+use Rattle.plan.specs.Verdict.{Judgement}
+use Rattle.plan.specs.Verdict.{Refused}
 use Rattle.plan.specs.declared.refusal.Fault.{Fault}
 use Rattle.plan.specs.declared.refusal.Fault.TheVariants.{Kind, Location, Run as BadRun, Order, Alone}
 use Rattle.plan.specs.Told.{fault}

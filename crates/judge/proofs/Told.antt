@@ -5,9 +5,9 @@ use native.Mathlib.Omega.{arith}
 use mathlib.Core.Path.{◌≡◌, refl, sym, ◌∙◌}
 use mathlib.Core.Logic.{◌↔◌}
 use Rattle.std.specs.Prelude.{Err}
-use Rattle.plan.specs.declared.Verdict.{Verdict}
-use Rattle.plan.specs.declared.Verdict.TheVariants.{Passed, Failed}
-use Rattle.plan.specs.declared.Judgement.TheVariants.{Needs, Refused}
+use Rattle.plan.specs.Verdict.{Verdict}
+use Rattle.plan.specs.Verdict.{Passed, Failed}
+use Rattle.plan.specs.Verdict.{Needs, Refused}
 use Rattle.plan.specs.declared.refusal.Refusal.{Refusal}
 use Rattle.plan.specs.declared.refusal.Refusal.TheVariants.{Uneven as UnevenList, Unsound, TooManyRecords, BadRecord, TooManyRows, NoRoom, NoSuchRow}
 use Rattle.plan.specs.Call.{then, judgement}

@@ -1,7 +1,7 @@
 -- What tests 1 to 3 answer.
 -- Assumes nothing.
 use Rattle.std.specs.Prelude.{ℕ, ◌&&◌, leb}
-use Rattle.plan.specs.declared.Verdict.{Verdict}
+use Rattle.plan.specs.Verdict.{Verdict}
 use Rattle.plan.specs.Table.{Table, even, sound}
 use Rattle.plan.specs.Call.{then, test, most_records}
 

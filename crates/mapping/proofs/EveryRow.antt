@@ -8,7 +8,7 @@ use mathlib.Core.List.{List, map}
 use lib.ListN.{get_or, get_or-map}
 use Rattle.plan.specs.declared.Record.{Record}
 use Rattle.plan.specs.declared.Answer.{Answer}
-use Rattle.plan.specs.declared.Verdict.TheVariants.{Passed}
+use Rattle.plan.specs.Verdict.{Passed}
 use Rattle.plan.specs.Table.{Table, even}
 use Rattle.plan.specs.Paint.{Origin, origins}
 use Rattle.plan.specs.Call.{result, judged}

@@ -15,8 +15,8 @@ use lib.Seq.{take_at, drop-append-le, drop-append-add}
 use Rattle.plan.specs.Tree.{Forest, none, tree, count, labels, sizes, dists, from, children}
 use Rattle.plan.specs.Table.{Table, table_of}
 pub use Rattle.plan.specs.Table.{tree_of}
-use Rattle.plan.specs.declared.Verdict.{Verdict}
-use Rattle.plan.specs.declared.Verdict.TheVariants.{Passed, Failed}
+use Rattle.plan.specs.Verdict.{Verdict}
+use Rattle.plan.specs.Verdict.{Passed, Failed}
 use Rattle.plan.specs.Axes.{cell, row, nothing, refuse, asked, whole, parent, first_child, next_sibling, subtree_top, subtree, walk_start, Walked, child, ended, stopped, step, steps, top, later, starts, roots, parent_under, parent_in, first_child_in, next_sibling_in, subtree_in, children_in}
 use Rattle.plan.proofs.Kit.{by_side}
 use Rattle.plan.proofs.Columns.{length-sizes, length-dists, length-labels}

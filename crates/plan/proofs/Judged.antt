@@ -8,7 +8,7 @@ use lib.Dec.{T, leb, leb→le}
 use lib.ListN.{length}
 use Rattle.plan.specs.declared.Record.{Record}
 use Rattle.std.specs.Prelude.{None}
-use Rattle.plan.specs.declared.Verdict.TheVariants.{Passed}
+use Rattle.plan.specs.Verdict.{Passed}
 use Rattle.plan.specs.Tree.{count}
 use Rattle.plan.specs.Table.{Table, sound, most_rows}
 use Rattle.plan.specs.Paint.{old, plan}

@@ -11,10 +11,10 @@ use lib.ListN.{length}
 use borrow.Author.Tests.{leb-true, leb-false, ltb-false}
 use Rattle.plan.specs.declared.Record.{Record}
 use Rattle.std.specs.Prelude.{Option, Some, None}
-use Rattle.plan.specs.declared.Verdict.{Verdict}
-use Rattle.plan.specs.declared.Verdict.TheVariants.{Passed, Failed}
-use Rattle.plan.specs.declared.Became.TheVariants.{Refused as NotBecame}
-use Rattle.plan.specs.declared.Was.TheVariants.{Refused as NotWas}
+use Rattle.plan.specs.Verdict.{Verdict}
+use Rattle.plan.specs.Verdict.{Passed, Failed}
+use Rattle.plan.specs.Mapping.{NotBecame}
+use Rattle.plan.specs.Mapping.{NotWas}
 use Rattle.plan.specs.Tree.{Forest, count}
 use Rattle.plan.specs.Table.{Table, even, sound, most_rows}
 use Rattle.plan.specs.Mapping.{Fate, row, gone, queried, mapped, became, was}

@@ -9,7 +9,7 @@ use lib.Dec.{T, eqb}
 use borrow.Author.Tests.{eqb-true}
 use Rattle.plan.specs.declared.Record.{Record}
 use Rattle.std.specs.Prelude.{Option, Some}
-use Rattle.plan.specs.declared.Verdict.TheVariants.{Passed}
+use Rattle.plan.specs.Verdict.{Passed}
 use Rattle.plan.specs.Tree.{Forest}
 use Rattle.plan.specs.Table.{Table}
 use Rattle.plan.specs.Records.{known, located, runs, follows, alone, failing}

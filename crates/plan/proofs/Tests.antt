@@ -10,8 +10,8 @@ use lib.Dec.{leb, ltb, eqb}
 use lib.ListN.{length}
 use Rattle.plan.specs.Table.{Table, even, sound}
 use Rattle.plan.specs.Answer.{accepted, refused}
-use Rattle.plan.specs.declared.Verdict.{Verdict}
-use Rattle.plan.specs.declared.Verdict.TheVariants.{Passed, Failed}
+use Rattle.plan.specs.Verdict.{Verdict}
+use Rattle.plan.specs.Verdict.{Passed, Failed}
 use Rattle.plan.specs.Call.{test}
 use Rattle.plan.proofs.Verdicts.{test_true, then-passed}
 use Rattle.plan.specs.Axes.{cell, soundness, Reply, row, nothing, refuse, reply, asked, whole, parent, next_sibling, child, ended, stopped, step}

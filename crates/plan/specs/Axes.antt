@@ -5,13 +5,8 @@ use Rattle.std.specs.Prelude.{ℕ, zero, suc, ◌+◌, ◌-◌, cond, ◌&&◌, 
 use Rattle.plan.specs.Tree.{Forest, none, tree, count, labels, from, children}
 use Rattle.plan.specs.Table.{Table, even, sound}
 use Rattle.plan.specs.declared.Answer.{Answer}
-use Rattle.plan.specs.declared.Verdict.{Verdict}
-use Rattle.plan.specs.declared.Verdict.TheVariants.{Passed, Failed}
-use Rattle.plan.specs.declared.Found.{Found}
-use Rattle.plan.specs.declared.Found.TheVariants.{Row, Nothing, Refused}
-use Rattle.plan.specs.declared.Start.{Start as Started}
-use Rattle.plan.specs.declared.Walk.{Walk}
-use Rattle.plan.specs.declared.Walk.TheVariants.{Child, Done, Refused as Stopped}
+use Rattle.plan.specs.Verdict.{Verdict}
+use Rattle.plan.specs.Verdict.{Passed, Failed}
 use Rattle.plan.specs.Call.{then, test, answer}
 
 -- what stands in row r of a column
@@ -118,25 +113,9 @@ unfoldable pub steps : ℕ → List ℕ → (c e : ℕ) → List Walked
 steps zero size c e = []
 steps (suc k) size c e = step size c e ∷ steps k size (moved (step size c e) c) e
 
--- ---- the code's answers, case by case
--- a call on a row
-abbrev pub told : Found → Reply
-told (Row r) = row r
-told Nothing = nothing
-told (Refused number place) = refuse number place
-
 -- what tests 1 and 11 give: the row asked about
 abbrev pub asked_row : Table → ℕ → Reply
 asked_row t r = reply (asked t r) (row r)
-
--- the start of a walk, and a step
-abbrev pub started : Started → Start
-started s = record { answer = told s.answer; next = s.next; end = s.end }
-
-abbrev pub walked : Walk → Walked
-walked (Child r next) = child r next
-walked Done = ended
-walked (Stopped number place) = stopped number place
 
 -- ---- a tree's own relations
 module _ {A : Type 0} where

@@ -3,8 +3,8 @@
 use Rattle.std.specs.Prelude.{ℕ, true, List, [], ◌∷◌, length, replicate}
 use Rattle.plan.specs.declared.Record.{Record}
 use Rattle.plan.specs.declared.Answer.{Answer}
-use Rattle.plan.specs.declared.Verdict.{Verdict}
-use Rattle.plan.specs.declared.Verdict.TheVariants.{Passed, Failed}
+use Rattle.plan.specs.Verdict.{Verdict}
+use Rattle.plan.specs.Verdict.{Passed, Failed}
 use Rattle.plan.specs.Answer.{accepted, refused}
 use Rattle.plan.specs.Tree.{count}
 use Rattle.plan.specs.Table.{Table, table}

@@ -6,10 +6,10 @@ use Rattle.plan.specs.declared.PlanRow.{PlanRow}
 use Rattle.plan.specs.declared.PlanPart.{PlanPart}
 use Rattle.plan.specs.declared.PlanWalk.{PlanWalk}
 use Rattle.plan.specs.declared.PlanStep.{PlanStep}
-use Rattle.plan.specs.declared.Became.{Became}
-use Rattle.plan.specs.declared.Became.TheVariants.{Row, Gone, Refused as NotBecame}
-use Rattle.plan.specs.declared.Was.{Was}
-use Rattle.plan.specs.declared.Was.TheVariants.{Old, Run, Refused as NotWas}
+use Rattle.plan.specs.Mapping.{Became}
+use Rattle.plan.specs.Mapping.{Row, Gone, NotBecame}
+use Rattle.plan.specs.Mapping.{Was}
+use Rattle.plan.specs.Mapping.{Old, Run, NotWas}
 use Rattle.plan.specs.declared.PlanBecame.{PlanBecame}
 use Rattle.plan.specs.declared.PlanWas.{PlanWas}
 

@@ -16,6 +16,7 @@
 --   Way       vain: does a record go with the rows that another took away? brought, taken: the rows that come and go.
 --             place_of: what a record asks of the tree. meeting: what it does to the rows
 --   Answer    accepted, refused: the two kinds of answer
+--   Verdict   Verdict: what tests say. Judgement: what the judgement does
 --   Call      tested: tests 4 to 8 of a list. result: the tree that a list leads to. judged: tests 1 to 9. bulk:
 --             tests 1 to 10. answer, held: what a call hands back, and what the new columns then hold; Done: both.
 --             kept_of: the kept changes of a list. published: the judgement alone
@@ -41,6 +42,7 @@ pub mod Paint
 pub mod Records
 pub mod Way
 pub mod Answer
+pub mod Verdict
 pub mod Call
 pub mod Reasons
 pub mod Lent

@@ -2,13 +2,11 @@
 -- Assumes nothing.
 use Rattle.std.specs.Prelude.{ℕ, zero, suc, ◌+◌, ◌≡◌, Bool, true, false, cond, ◌&&◌, ◌||◌, List, [], ◌∷◌, ◌++◌, map, leb, ltb, eqb, length, drop, get_or}
 use Rattle.plan.specs.declared.Record.{Record}
+use Rattle.plan.specs.declared.OldPre.{OldPre}
+use Rattle.plan.specs.declared.NewPre.{NewPre}
 use Rattle.plan.specs.declared.Answer.{Answer}
-use Rattle.plan.specs.declared.Verdict.{Verdict}
-use Rattle.plan.specs.declared.Verdict.TheVariants.{Passed, Failed}
-use Rattle.plan.specs.declared.Became.{Became}
-use Rattle.plan.specs.declared.Became.TheVariants.{Row, Gone, Refused as NotBecame}
-use Rattle.plan.specs.declared.Was.{Was}
-use Rattle.plan.specs.declared.Was.TheVariants.{Old, Run, Refused as NotWas}
+use Rattle.plan.specs.Verdict.{Verdict}
+use Rattle.plan.specs.Verdict.{Passed, Failed}
 use Rattle.plan.specs.Tree.{Forest, count, sizes}
 use Rattle.plan.specs.Table.{Table, even}
 use Rattle.plan.specs.Change.{delete, rename, replace, Change, insert, act, location, removes}
@@ -33,6 +31,18 @@ origin_at os r = get_or os r (old 0)
 -- the tests of both mappings: 1 to 9, then 11 for a row number that is not below n
 unfoldable pub queried : Bool → Table → Table → List Record → (n r : ℕ) → Verdict
 queried evens t i l n r = then (judged (evens && (even t && even i)) t i l) (test (ltb r n) 11 r 0)
+
+-- what the mapping of an old row answers: its new number; it is gone; or the refusal
+pub data Became : Type 0 where
+  Row : NewPre → Became
+  Gone : Became
+  NotBecame : (number place count : ℕ) → Became
+
+-- and that of a new row: an old row; a record and the row in its run; or the refusal
+pub data Was : Type 0 where
+  Old : OldPre → Was
+  Run : (record_number row : ℕ) → Was
+  NotWas : (number place count : ℕ) → Was
 
 -- an old row's fate, and a new row's origin, as an answer
 abbrev pub went : Fate → Became

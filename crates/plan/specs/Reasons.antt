@@ -2,7 +2,7 @@
 -- Assumes nothing.
 use Rattle.std.specs.Prelude.{ℕ, ◌≤◌, ◌<◌, ◌≡◌, Bool, false, ◌&&◌, List, [], ◌∷◌, ◌++◌, T, length, Option, Some, None}
 use Rattle.plan.specs.declared.Record.{Record}
-use Rattle.plan.specs.declared.Verdict.TheVariants.{Passed}
+use Rattle.plan.specs.Verdict.{Passed}
 use Rattle.plan.specs.Tree.{Forest, count}
 use Rattle.plan.specs.Table.{Table, even, sound, most_rows}
 use Rattle.plan.specs.Paint.{old, plan}

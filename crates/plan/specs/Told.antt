@@ -4,14 +4,14 @@
 use Rattle.std.specs.Prelude.{ℕ, ⊤, Option, Some, None, Result, Ok, Err}
 use Rattle.plan.specs.declared.NewPre.{NewPre}
 use Rattle.plan.specs.declared.Answer.{Answer}
-use Rattle.plan.specs.declared.Verdict.{Verdict}
-use Rattle.plan.specs.declared.Verdict.TheVariants.{Passed, Failed}
-use Rattle.plan.specs.declared.Judgement.{Judgement}
-use Rattle.plan.specs.declared.Judgement.TheVariants.{Needs}
-use Rattle.plan.specs.declared.Became.{Became}
-use Rattle.plan.specs.declared.Became.TheVariants.{Row, Gone}
-use Rattle.plan.specs.declared.Was.{Was}
-use Rattle.plan.specs.declared.Was.TheVariants.{Old as WasOld, Run as WasRun}
+use Rattle.plan.specs.Verdict.{Verdict}
+use Rattle.plan.specs.Verdict.{Passed, Failed}
+use Rattle.plan.specs.Verdict.{Judgement}
+use Rattle.plan.specs.Verdict.{Needs}
+use Rattle.plan.specs.Mapping.{Became}
+use Rattle.plan.specs.Mapping.{Row, Gone}
+use Rattle.plan.specs.Mapping.{Was}
+use Rattle.plan.specs.Mapping.{Old as WasOld, Run as WasRun}
 use Rattle.plan.specs.declared.Source.{Source}
 use Rattle.plan.specs.declared.Source.TheVariants.{Old, Run}
 use Rattle.plan.specs.declared.Span.{Span}

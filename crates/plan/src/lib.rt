@@ -91,22 +91,6 @@ pub enum Meeting {
     Here(OldPre, u32, Stand),
 }
 
-// What became of an old row: its new number; it is gone; or the refusal.
-#[derive(Clone, Copy)]
-pub enum Became {
-    Row(NewPre),
-    Gone,
-    Refused(u32, u32, u64),
-}
-
-// Which row a new one was: an old row; a record and the row in its run; or the refusal.
-#[derive(Clone, Copy)]
-pub enum Was {
-    Old(OldPre),
-    Run(u32, u32),
-    Refused(u32, u32, u64),
-}
-
 // Which row a new one was: an old row, or a record and the row in its run.
 #[derive(Clone, Copy)]
 pub enum Source {
@@ -127,13 +111,6 @@ pub struct Span {
 pub struct Child {
     pub row: usize,
     pub next: usize,
-}
-
-// What tests say: all passed, or the number of the first that failed, with the place at fault and a count.
-#[derive(Clone, Copy)]
-pub enum Verdict {
-    Passed,
-    Failed(u32, u32, u64),
 }
 
 // What a call hands back: 0 or the number of the test that failed, the place at fault, and a count.
@@ -170,37 +147,6 @@ impl Answer {
             count: count,
         }
     }
-}
-
-// What a call on a row answers: a row, none, or the number of the test that failed and the row at fault.
-#[derive(Clone, Copy)]
-pub enum Found {
-    Row(usize),
-    Nothing,
-    Refused(u32, u32),
-}
-
-// Where a walk starts: what its tests answer, the first candidate and the end. A refused one stands at its end.
-#[derive(Clone, Copy)]
-pub struct Start {
-    pub answer: Found,
-    pub next: usize,
-    pub end: usize,
-}
-
-// What a step answers: a child's row and the next candidate, none, or the test that failed and the candidate.
-#[derive(Clone, Copy)]
-pub enum Walk {
-    Child(usize, usize),
-    Done,
-    Refused(u32, usize),
-}
-
-// What the judgement says: so many rows are needed, or the number of the test that failed, the place and a count.
-#[derive(Clone, Copy)]
-pub enum Judgement {
-    Needs(u64),
-    Refused(u32, u32, u64),
 }
 
 // `plan_row`: a row, or none.

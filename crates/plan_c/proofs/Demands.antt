@@ -13,9 +13,9 @@ use lib.ListN.{length, get_or}
 use Rattle.plan.specs.declared.Record.{Record}
 use Rattle.plan.specs.declared.Answer.{Answer}
 use Rattle.std.specs.Prelude.{None}
-use Rattle.plan.specs.declared.Verdict.TheVariants.{Passed, Failed}
-use Rattle.plan.specs.declared.Became.TheVariants.{Refused as NotBecame}
-use Rattle.plan.specs.declared.Was.TheVariants.{Refused as NotWas}
+use Rattle.plan.specs.Verdict.{Passed, Failed}
+use Rattle.plan.specs.Mapping.{NotBecame}
+use Rattle.plan.specs.Mapping.{NotWas}
 use Rattle.plan.specs.Answer.{accepted, refused}
 use Rattle.plan.specs.Tree.{Forest, count}
 use Rattle.plan.specs.Table.{Table, TreeOf, tree_of, table_of, even, sound}

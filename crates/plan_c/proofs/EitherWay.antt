@@ -14,12 +14,12 @@ use Rattle.plan.specs.Paint.{origins}
 use Rattle.plan.specs.Call.{result}
 use Rattle.plan.specs.Lent.{Lent, level, list}
 use Rattle.plan.specs.Mapping.{fate, origin_at, queried}
-use Rattle.plan.specs.declared.Judgement.{Judgement}
+use Rattle.plan.specs.Verdict.{Judgement}
 use Rattle.plan.specs.Call.{published, published_of}
 use Rattle.plan.specs.Call.{Done}
 use Rattle.refresh.proofs.Outcomes.{one_outcome}
-use Rattle.plan.specs.declared.Became.{Became}
-use Rattle.plan.specs.declared.Was.{Was}
+use Rattle.plan.specs.Mapping.{Became}
+use Rattle.plan.specs.Mapping.{Was}
 use Rattle.plan.specs.Mapping.{became, was}
 use Rattle.plan.specs.declared.PlanBecame.{PlanBecame}
 use Rattle.plan.specs.declared.PlanWas.{PlanWas}

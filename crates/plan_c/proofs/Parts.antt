@@ -3,8 +3,8 @@
 use Prim.Native.Nat.{ℕ}
 use mathlib.Core.Path.{◌≡◌, refl}
 use lib.ListN.{length, take, drop}
-use Rattle.plan.specs.declared.Verdict.{Verdict}
-use Rattle.plan.specs.declared.Verdict.TheVariants.{Passed, Failed}
+use Rattle.plan.specs.Verdict.{Verdict}
+use Rattle.plan.specs.Verdict.{Passed, Failed}
 use Rattle.plan.specs.Table.{Table}
 use Rattle.plan.specs.Axes.{whole, subtree_top, subtree}
 use Rattle.plan.proofs.Axes.{subtree-whole, subtree_failed}

@@ -9,8 +9,8 @@ use mathlib.Core.List.{List, [], ◌∷◌}
 use lib.ListN.{length}
 use Rattle.plan.specs.declared.Record.{Record}
 use Rattle.plan.specs.declared.Answer.{Answer}
-use Rattle.plan.specs.declared.Verdict.{Verdict}
-use Rattle.plan.specs.declared.Verdict.TheVariants.{Passed, Failed}
+use Rattle.plan.specs.Verdict.{Verdict}
+use Rattle.plan.specs.Verdict.{Passed, Failed}
 use Rattle.plan.proofs.Refusals.{refused_for, reason_number, reason_rows}
 use Rattle.plan.specs.Answer.{accepted, refused}
 use Rattle.plan.specs.Tree.{count, relabel}

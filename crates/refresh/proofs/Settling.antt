@@ -11,9 +11,9 @@ use borrow.Author.Tests.{leb-true}
 use Rattle.std.specs.Prelude.{Err}
 use Rattle.std.proofs.lemmas.List.{drop_all}
 use Rattle.plan.specs.declared.Record.{Record}
-use Rattle.plan.specs.declared.Verdict.{Verdict}
-use Rattle.plan.specs.declared.Verdict.TheVariants.{Passed, Failed}
-use Rattle.plan.specs.declared.Judgement.TheVariants.{Needs}
+use Rattle.plan.specs.Verdict.{Verdict}
+use Rattle.plan.specs.Verdict.{Passed, Failed}
+use Rattle.plan.specs.Verdict.{Needs}
 use Rattle.plan.specs.declared.refusal.Refusal.{Refusal}
 use Rattle.plan.specs.declared.refusal.Refusal.TheVariants.{Uneven}
 use Rattle.plan.specs.Answer.{accepted}

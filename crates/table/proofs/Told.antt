@@ -2,8 +2,8 @@
 -- Assumes nothing.
 use Rattle.std.proofs.Common.{◌≡◌, ℕ, ◌+◌, ◌<◌, ◌≤◌, Bool, true, [], length, take, drop, Option, Some, None, Result, Ok, Err, is_ok, sym, refl, ap, ◌∙◌, arith}
 use Rattle.std.specs.Prelude.{⊤, IsErrAnd}
-use Rattle.plan.specs.declared.Verdict.{Verdict}
-use Rattle.plan.specs.declared.Verdict.TheVariants.{Passed, Failed}
+use Rattle.plan.specs.Verdict.{Verdict}
+use Rattle.plan.specs.Verdict.{Passed, Failed}
 use Rattle.plan.specs.declared.refusal.Uneven.{Uneven as UnevenTest}
 use Rattle.plan.specs.declared.refusal.Refusal.{Refusal}
 use Rattle.plan.specs.declared.refusal.Refusal.TheVariants.{Uneven, Unsound, TooManyRecords, BadRecord, TooManyRows, NoRoom, NoSuchRow}

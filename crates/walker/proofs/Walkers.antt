@@ -4,7 +4,7 @@ use Prim.Native.Nat.{ℕ, zero, suc, ◌+◌, ◌<◌}
 use mathlib.Core.Path.{◌≡◌, refl, ap, ◌∙◌}
 use mathlib.Core.List.{List, [], ◌∷◌, ◌++◌, map}
 use lib.ListN.{length, replicate}
-use Rattle.plan.specs.declared.Verdict.TheVariants.{Failed}
+use Rattle.plan.specs.Verdict.{Failed}
 use denote.Ref.{Bor}
 use Rattle.plan.specs.Table.{Table, table}
 use Rattle.plan.specs.Axes.{row, refuse, whole, walk_start, Walked, ended, stopped, moved, steps, children_in}

@@ -1,6 +1,6 @@
 -- `table::sound::soundness` meets its contract.
 use Rattle.std.proofs.Common.{ℕ, length, refl, sym, ap, ◌∙◌}
-use Rattle.plan.specs.declared.Verdict.{Verdict}
+use Rattle.plan.specs.Verdict.{Verdict}
 use Rattle.plan.specs.Call.{answer}
 use Rattle.plan.specs.Told.{answer_told}
 use Rattle.plan.proofs.Verdicts.{passed-told, failed_told}

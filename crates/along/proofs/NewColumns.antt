@@ -30,12 +30,12 @@ use Rattle.plan.proofs.Mapping.{rows_of, length-origins}
 use Rattle.plan.proofs.Following.{spliced}
 use Rattle.judge_record.specs.Way.{behind}
 use Rattle.judge_record.proofs.Ways.{ahead, Way, Turn, nothing, renames, here, rows_few, way_few, way_low, way_inside, last-ahead, all_rows}
-use Rattle.along.specs.Reached.{Reached, met}
-use Rattle.along.specs.Laid.{rising}
+use Rattle.along.specs.Met.{met}
+use Rattle.along.specs.Rising.{rising}
 use Rattle.judge.proofs.Told.{failed-fails}
 use Rattle.along.proofs.Told.{list-refused, judged_told, test_refused, test_told}
 use Rattle.along.proofs.Laying.{laid, laid-append, laid-length, laid_front, rising-length, part-length, counted, filled}
-use Rattle.along.proofs.Reaching.{passes, reached-start, way, turned, reached-more, next, place_is}
+use Rattle.along.proofs.Reaching.{Reached, passes, reached-start, way, turned, reached-more, next, place_is}
 
 -- ---- rows of one paint, as numbers
 map-append : (f : Origin → ℕ) (xs ys : List Origin) → map f (xs ++ ys) ≡ map f xs ++ map f ys

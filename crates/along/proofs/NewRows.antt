@@ -30,10 +30,10 @@ use Rattle.plan.specs.Told.{failed, was_told, judgement_told, verdict_told}
 use Rattle.plan.proofs.Judged.{accepted-judged}
 use Rattle.judge_record.specs.Way.{behind}
 use Rattle.judge_record.proofs.Ways.{Turn, nothing, renames, here, way_low}
-use Rattle.along.specs.Reached.{Reached, met}
+use Rattle.along.specs.Met.{met}
 use Rattle.judge.proofs.Told.{failed-fails}
 use Rattle.along.proofs.Told.{list-refused, judged_told, test_refused, test_told}
-use Rattle.along.proofs.Reaching.{passes, reached-start, way, turned, reached-more, next, place_is, here-old, here-run, last-old}
+use Rattle.along.proofs.Reaching.{Reached, passes, reached-start, way, turned, reached-more, next, place_is, here-old, here-run, last-old}
 
 module _ (x : ℕ) (t i : Table) (l : List Record) where
   abbrev rows : ℕ

@@ -26,12 +26,12 @@ use Rattle.plan.specs.Mapping.{row, gone, fate, mark, new_numbers, mapped, old_v
 use Rattle.plan.specs.Told.{failed, answer_told, judgement_told, verdict_told}
 use Rattle.judge_record.specs.Way.{behind}
 use Rattle.judge_record.proofs.Ways.{Turn, nothing, renames, here, rows_few, way_few, way_inside}
-use Rattle.along.specs.Reached.{Reached, met}
-use Rattle.along.specs.Laid.{rising}
+use Rattle.along.specs.Met.{met}
+use Rattle.along.specs.Rising.{rising}
 use Rattle.judge.proofs.Told.{failed-fails}
 use Rattle.along.proofs.Told.{list-refused, test_refused}
 use Rattle.along.proofs.Laying.{laid, laid-append, laid-length, laid_front, rising-length, part-length, counted, filled}
-use Rattle.along.proofs.Reaching.{passes, way, turned, reached-more, here-row, here-gone, last_row}
+use Rattle.along.proofs.Reaching.{Reached, passes, way, turned, reached-more, here-row, here-gone, last_row}
 
 -- ---- the numbers of some rows
 module _ (os : List Origin) where

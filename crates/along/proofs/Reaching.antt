@@ -25,7 +25,7 @@ use Rattle.plan.proofs.AtRecord.{passed-fate}
 use Rattle.plan.proofs.Following.{spliced, at_before, at-run, fate-before, fate-behind, at_last, fate-last}
 use Rattle.judge_record.specs.Way.{Meets, behind, stands}
 use Rattle.judge_record.proofs.Ways.{Passes, tree, rows, ahead, Way, Turn, turn, meets, way_ends_low, way_start, way_on, way_origin, last-ahead, all_rows}
-use Rattle.along.specs.Reached.{Reached, Meetable, met}
+use Rattle.along.specs.Met.{Meetable, met}
 
 -- what a record does, by the numbers that were read
 module _ (size isize : List ℕ) (s : Stand) (r : Record) (n : ℕ) (f : n ≡ brought isize r) where
@@ -35,6 +35,13 @@ module _ (size isize : List ℕ) (s : Stand) (r : Record) (n : ℕ) (f : n ≡ b
   pub met-is : (m : Meeting) (e : OldPre) → e ≡ old_pre (goes_on_at size r) → m ≡ meeting s r e.0 n
       → m ≡ met size isize s r
   met-is m e g h = h ∙ (λ c. meeting s r (g c).0 (f c))
+
+-- the list l passed the tests, and the records of it that are done led to s; the records rs are left
+pub record Reached (t i : Table) (l : List Record) (s : Stand) (rs : List Record) : Type 0 where
+  pub passed : judged (even t && even i) t i l ≡ Passed
+  pub done : List Record
+  pub parts : l ≡ done ++ rs
+  pub there : s ≡ stands t.size i.size start done
 
 -- one record more
 pub stands-more : (size isize : List ℕ) (s : Stand) (ps : List Record) (r : Record)

@@ -130,7 +130,6 @@ module _ (t i : Table) (l : List Record) (u : List ℕ) where
     pub ahead : s.row.0 ≤ at
     pub on : at ≤ next.row.0
     pub inside : next.row.0 ≤ length v
-    pub few : s.out.0 + (at - s.row.0) ≤ 4294967296
     pub behind : Going next (laid (replicate (next.row.0 - at) mark) (laid (rising (at - s.row.0) s.out.0) v s.row.0) at) rs
 
   abbrev Step : Stand → List ℕ → List Record → Meeting → Type 0
@@ -155,7 +154,6 @@ module _ (t i : Table) (l : List Record) (u : List ℕ) where
           ahead = a;
           on = b;
           inside = omega (arith, inside, h.room, h.long);
-          few = omega (arith, way_few t i l p s' (suc place) rs w);
           behind = record {
             reached = q;
             room = h.room;

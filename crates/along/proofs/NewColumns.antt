@@ -305,7 +305,8 @@ module _ (t i : Table) (l : List Record) (u : Places) where
           counted counts first next.out.0 (omega arith) row_room 0 f
           ∙ ap (λ (ns : List ℕ). laid (rising (next.out.0 - first) 0) ns first) old-rows
 
-    pub went_on : {a b c d : List ℕ} → (e : a ≡ replicate (length (take (first - s.out.0) (drop s.out.0 v.records))) mark)
+    pub went_on : {a b c d : List ℕ}
+        → (e : a ≡ replicate (length (take (first - s.out.0) (drop s.out.0 v.records))) mark)
         → b ≡ replicate (length (take (next.out.0 - first) (drop first (olds e)))) k
         → (f : c ≡ rising (length (take (first - s.out.0) (drop s.out.0 v.rows))) s.row.0)
         → d ≡ rising (length (take (next.out.0 - first) (drop first (counts f)))) 0

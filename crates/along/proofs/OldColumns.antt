@@ -130,7 +130,8 @@ module _ (t i : Table) (l : List Record) (u : List ℕ) where
     pub ahead : s.row.0 ≤ at
     pub on : at ≤ next.row.0
     pub inside : next.row.0 ≤ length v
-    pub behind : Going next (laid (replicate (next.row.0 - at) mark) (laid (rising (at - s.row.0) s.out.0) v s.row.0) at) rs
+    pub behind : Going next
+        (laid (replicate (next.row.0 - at) mark) (laid (rising (at - s.row.0) s.out.0) v s.row.0) at) rs
 
   abbrev Step : Stand → List ℕ → List Record → Meeting → Type 0
   Step s v rs Vain = Going s v rs

@@ -9,7 +9,7 @@ use lib.Seq.{length-take-le}
 use borrow.Rule.Slice.PartMut.{put_mid}
 use Rattle.std.proofs.Math.Seq.{take-suc-set}
 use Rattle.std.proofs.lemmas.List.{take_all}
-use Rattle.along.specs.Laid.{rising}
+use Rattle.along.specs.Rising.{rising}
 
 -- ---- counted up
 pub rising-length : (n k : ℕ) → length (rising n k) ≡ n

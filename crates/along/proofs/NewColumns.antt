@@ -1,17 +1,17 @@
 -- Every new row along a list: what the origins to come say, laid over the columns at each record, is the whole of both
 -- columns of origins.
 -- Assumes nothing.
-use Prim.Native.Nat.{ℕ, zero, suc, ◌+◌, ◌-◌, ◌≤◌, ◌<◌}
+use Prim.Native.Nat.{ℕ, zero, suc, ◌+◌, ◌-◌, ◌≤◌}
 use native.Mathlib.Omega.{arith}
 use mathlib.Core.Path.{◌≡◌, refl, sym, ap, ◌∙◌, subst}
 use mathlib.Core.Bool.{true, ◌&&◌}
 use mathlib.Core.List.{List, [], ◌∷◌, ◌++◌, map}
 use lib.Dec.{eqb, leb}
 use lib.ListN.{length, take, drop, replicate, length-replicate, length-map}
-use borrow.Author.Tests.{le-leb, leb-true, eq-eqb, ne_eqb}
+use borrow.Author.Tests.{le-leb, eq-eqb, ne_eqb}
 use borrow.Rule.Slice.PartMut.{put_mid}
 use Rattle.std.proofs.lemmas.List.{drop_all}
-use Rattle.std.specs.Prelude.{Ok, Err, ⊤}
+use Rattle.std.specs.Prelude.{Ok, Err}
 use Rattle.plan.specs.declared.Record.{Record}
 use Rattle.plan.specs.declared.Stand.{Stand}
 use Rattle.plan.specs.declared.Meeting.{Meeting}
@@ -22,20 +22,19 @@ use Rattle.plan.specs.Answer.{accepted, refused}
 use Rattle.plan.specs.Tree.{count}
 use Rattle.plan.specs.Table.{Table, even}
 use Rattle.plan.specs.Paint.{Origin, old, new, origins}
-use Rattle.plan.specs.Way.{start}
 use Rattle.plan.specs.Call.{result, judged, published_of, test}
 use Rattle.plan.specs.Mapping.{mark, record_of, row_of, mapped, Places, places, new_verdict, NewDone}
 use Rattle.plan.specs.Told.{failed, answer_told, judgement_told, verdict_told}
 use Rattle.plan.proofs.Mapping.{rows_of, length-origins}
 use Rattle.plan.proofs.Following.{spliced}
 use Rattle.judge_record.specs.Way.{behind}
-use Rattle.judge_record.proofs.Ways.{ahead, Way, Turn, nothing, renames, here, rows_few, way_few, way_low, way_inside, last-ahead, all_rows}
-use Rattle.along.specs.Reached.{Reached, met}
-use Rattle.along.specs.Laid.{rising}
+use Rattle.judge_record.proofs.Ways.{ahead, Way, Turn, nothing, renames, here, rows_few, way_inside, last-ahead, all_rows}
+use Rattle.along.specs.Met.{met}
+use Rattle.along.specs.Rising.{rising}
 use Rattle.judge.proofs.Told.{failed-fails}
-use Rattle.along.proofs.Told.{list-refused, judged_told, test_refused, test_told}
+use Rattle.along.proofs.Told.{list-refused, judged_told, test_refused}
 use Rattle.along.proofs.Laying.{laid, laid-append, laid-length, laid_front, rising-length, part-length, counted, filled}
-use Rattle.along.proofs.Reaching.{passes, reached-start, way, turned, reached-more, next, place_is}
+use Rattle.along.proofs.Reaching.{Reached, passes, way, turned, reached-more, next, place_is}
 
 -- ---- rows of one paint, as numbers
 map-append : (f : Origin → ℕ) (xs ys : List Origin) → map f (xs ++ ys) ≡ map f xs ++ map f ys
@@ -124,20 +123,6 @@ module _ (t i : Table) (l : List Record) (u : Places) where
       room_refused e f =
           refused_so e (rw level (test_refused _ _ (leb n (length u.records)) 10 0 n m e h (rw needed at f)))
 
-      pub going : (y : ⊤) → verdict_told (Ok y) ≡ test (leb m (length u.records)) 10 0 m
-          → (s : Stand) → s ≡ start → Going s u l
-      going y f s z =
-          rw z
-          (record {
-            reached = reached-start t i l (judged_told _ _ true 10 0 m m h).0;
-            even = q;
-            room = rw needed at (leb-true m (length u.records) (test_told Passed m _ 10 0 m y f));
-            record-long = refl;
-            row-long = refl;
-            records = refl;
-            rows = refl;
-          })
-
     written : judged (even t && even i) t i l ≡ Passed → n ≤ length u.records → (w : Places)
         → w.records ≡ laid_from record_of 0 u.records → w.rows ≡ laid_from row_of 0 u.rows
         → NewDone true t i l u (accepted n) w
@@ -160,7 +145,6 @@ module _ (t i : Table) (l : List Record) (u : Places) where
     pub ahead : s.out.0 ≤ next.out.0 - m
     pub record-inside : next.out.0 ≤ length v.records
     pub row-inside : next.out.0 ≤ length v.rows
-    pub few : s.row.0 + (next.out.0 - m - s.out.0) ≤ 4294967296
     pub behind : let first = next.out.0 - m in
         Going next
         (places
@@ -217,7 +201,6 @@ module _ (t i : Table) (l : List Record) (u : Places) where
           ahead = omega (arith, d);
           record-inside = omega (arith, all, h.room, h.record-long);
           row-inside = omega (arith, all, h.room, h.even, h.row-long);
-          few = omega (arith, d, way_low t i l p s' (suc place) rs w);
           behind = record {
             reached = q;
             even = h.even;
@@ -322,7 +305,8 @@ module _ (t i : Table) (l : List Record) (u : Places) where
           counted counts first next.out.0 (omega arith) row_room 0 f
           ∙ ap (λ (ns : List ℕ). laid (rising (next.out.0 - first) 0) ns first) old-rows
 
-    pub went_on : {a b c d : List ℕ} → (e : a ≡ replicate (length (take (first - s.out.0) (drop s.out.0 v.records))) mark)
+    pub went_on : {a b c d : List ℕ}
+        → (e : a ≡ replicate (length (take (first - s.out.0) (drop s.out.0 v.records))) mark)
         → b ≡ replicate (length (take (next.out.0 - first) (drop first (olds e)))) k
         → (f : c ≡ rising (length (take (first - s.out.0) (drop s.out.0 v.rows))) s.row.0)
         → d ≡ rising (length (take (next.out.0 - first) (drop first (counts f)))) 0
@@ -339,7 +323,6 @@ module _ (t i : Table) (l : List Record) (u : Places) where
 
     pub record Last : Type 0 where
       pub inside : s.row.0 ≤ length t.size
-      pub low : end < 4294967296
       pub record-inside : end ≤ length v.records
       pub row-inside : end ≤ length v.rows
       pub few : s.row.0 + length (take (end - s.out.0) (drop s.out.0 v.rows)) ≤ 4294967296
@@ -374,7 +357,6 @@ module _ (t i : Table) (l : List Record) (u : Places) where
         let few = rows_few t p.table-sound in
         record {
           inside = within;
-          low = omega (arith, way_few t i l p s j [] z, few);
           record-inside = long;
           row-inside = wide;
           few = omega (arith, part-length v.rows s.out.0 end (omega arith) wide, few, within);

@@ -9,8 +9,8 @@ use mathlib.Core.List.{List, [], ◌∷◌}
 use lib.Dec.{ltb}
 use lib.ListN.{length, drop}
 use Rattle.std.proofs.lemmas.List.{drop_all}
-use borrow.Author.Tests.{lt-ltb, ltb-true}
-use Rattle.std.specs.Prelude.{Ok, Err, ⊤}
+use borrow.Author.Tests.{lt-ltb}
+use Rattle.std.specs.Prelude.{Ok, Err}
 use Rattle.plan.specs.declared.NewPre.{NewPre}
 use Rattle.plan.specs.declared.Record.{Record}
 use Rattle.plan.specs.declared.Stand.{Stand}
@@ -23,17 +23,17 @@ use Rattle.plan.specs.declared.refusal.Refusal.{Refusal}
 use Rattle.plan.specs.Tree.{count}
 use Rattle.plan.specs.Table.{Table, even}
 use Rattle.plan.specs.Paint.{Origin, old, new, origins}
-use Rattle.plan.specs.Way.{old_pre, start}
+use Rattle.plan.specs.Way.{old_pre}
 use Rattle.plan.specs.Call.{result, judged, published_of, test}
 use Rattle.plan.specs.Mapping.{origin_at, queried, came, was}
 use Rattle.plan.specs.Told.{failed, was_told, judgement_told, verdict_told}
 use Rattle.plan.proofs.Judged.{accepted-judged}
 use Rattle.judge_record.specs.Way.{behind}
 use Rattle.judge_record.proofs.Ways.{Turn, nothing, renames, here, way_low}
-use Rattle.along.specs.Reached.{Reached, met}
+use Rattle.along.specs.Met.{met}
 use Rattle.judge.proofs.Told.{failed-fails}
-use Rattle.along.proofs.Told.{list-refused, judged_told, test_refused, test_told}
-use Rattle.along.proofs.Reaching.{passes, reached-start, way, turned, reached-more, next, place_is, here-old, here-run, last-old}
+use Rattle.along.proofs.Told.{list-refused, judged_told, test_refused}
+use Rattle.along.proofs.Reaching.{Reached, passes, way, turned, reached-more, next, place_is, here-old, here-run, last-old}
 
 module _ (x : ℕ) (t i : Table) (l : List Record) where
   abbrev rows : ℕ
@@ -64,16 +64,6 @@ module _ (x : ℕ) (t i : Table) (l : List Record) where
     row_refused e f =
         let needed = (judged_told _ _ (ltb x n) 11 x 0 n h).1 in
         refused_so e (test_refused _ _ _ 11 x 0 n e h (rw needed at f))
-
-    pub going : (y : ⊤) → verdict_told (Ok y) ≡ test (ltb x n) 11 x 0 → (s : Stand) → s ≡ start → Going s l
-    going y f s z =
-        let told = judged_told _ _ (ltb x n) 11 x 0 n h in
-        rw z
-        (record {
-          reached = reached-start t i l told.0;
-          ahead = omega arith;
-          below = omega (arith, ltb-true x n (test_told Passed n _ 11 x 0 y f), told.1);
-        })
 
   followed : judged (even t && even i) t i l ≡ Passed → x < rows
       → (o : Origin) → origin_at (origins (result t i l)) x ≡ o → Right (came o)

@@ -26,12 +26,12 @@ use Rattle.plan.specs.Mapping.{row, gone, fate, mark, new_numbers, mapped, old_v
 use Rattle.plan.specs.Told.{failed, answer_told, judgement_told, verdict_told}
 use Rattle.judge_record.specs.Way.{behind}
 use Rattle.judge_record.proofs.Ways.{Turn, nothing, renames, here, rows_few, way_few, way_inside}
-use Rattle.along.specs.Reached.{Reached, met}
-use Rattle.along.specs.Laid.{rising}
+use Rattle.along.specs.Met.{met}
+use Rattle.along.specs.Rising.{rising}
 use Rattle.judge.proofs.Told.{failed-fails}
 use Rattle.along.proofs.Told.{list-refused, test_refused}
 use Rattle.along.proofs.Laying.{laid, laid-append, laid-length, laid_front, rising-length, part-length, counted, filled}
-use Rattle.along.proofs.Reaching.{passes, way, turned, reached-more, here-row, here-gone, last_row}
+use Rattle.along.proofs.Reaching.{Reached, passes, way, turned, reached-more, here-row, here-gone, last_row}
 
 -- ---- the numbers of some rows
 module _ (os : List Origin) where
@@ -130,8 +130,8 @@ module _ (t i : Table) (l : List Record) (u : List ℕ) where
     pub ahead : s.row.0 ≤ at
     pub on : at ≤ next.row.0
     pub inside : next.row.0 ≤ length v
-    pub few : s.out.0 + (at - s.row.0) ≤ 4294967296
-    pub behind : Going next (laid (replicate (next.row.0 - at) mark) (laid (rising (at - s.row.0) s.out.0) v s.row.0) at) rs
+    pub behind : Going next
+        (laid (replicate (next.row.0 - at) mark) (laid (rising (at - s.row.0) s.out.0) v s.row.0) at) rs
 
   abbrev Step : Stand → List ℕ → List Record → Meeting → Type 0
   Step s v rs Vain = Going s v rs
@@ -155,7 +155,6 @@ module _ (t i : Table) (l : List Record) (u : List ℕ) where
           ahead = a;
           on = b;
           inside = omega (arith, inside, h.room, h.long);
-          few = omega (arith, way_few t i l p s' (suc place) rs w);
           behind = record {
             reached = q;
             room = h.room;

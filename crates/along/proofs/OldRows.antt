@@ -28,10 +28,10 @@ use Rattle.plan.specs.Mapping.{Fate, row, gone, fate, queried, went, became}
 use Rattle.plan.specs.Told.{failed, became_told, judgement_told, verdict_told}
 use Rattle.judge_record.specs.Way.{behind}
 use Rattle.judge_record.proofs.Ways.{Turn, nothing, renames, here, rows_few, way_few}
-use Rattle.along.specs.Reached.{Reached, met}
+use Rattle.along.specs.Met.{met}
 use Rattle.judge.proofs.Told.{failed-fails}
 use Rattle.along.proofs.Told.{list-refused, test_refused}
-use Rattle.along.proofs.Reaching.{passes, way, turned, reached-more, here-row, here-gone, last_row}
+use Rattle.along.proofs.Reaching.{Reached, passes, way, turned, reached-more, here-row, here-gone, last_row}
 
 module _ (x : ℕ) (t i : Table) (l : List Record) where
   -- the answer is right

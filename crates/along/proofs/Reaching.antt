@@ -7,15 +7,13 @@ use mathlib.Core.Path.{◌≡◌, refl, sym, ap, ◌∙◌, subst}
 use mathlib.Core.Bool.{◌&&◌}
 use mathlib.Core.List.{List, [], ◌∷◌, ◌++◌, append_assoc}
 use lib.ListN.{length, drop, length-append, length-drop}
-use Rattle.plan.specs.declared.OldPre.{OldPre}
 use Rattle.plan.specs.declared.Record.{Record}
 use Rattle.plan.specs.declared.Stand.{Stand}
-use Rattle.plan.specs.declared.Meeting.{Meeting}
 use Rattle.plan.specs.Verdict.{Passed}
 use Rattle.plan.specs.Tree.{count}
 use Rattle.plan.specs.Table.{Table, even}
 use Rattle.plan.specs.Paint.{Origin, old, new, origins}
-use Rattle.plan.specs.Way.{old_pre, brought, goes_on_at, start, meeting}
+use Rattle.plan.specs.Way.{start}
 use Rattle.plan.specs.Call.{result, judged}
 use Rattle.plan.specs.Mapping.{row, gone, fate, origin_at}
 use Rattle.plan.proofs.Kit.{T_and}
@@ -23,18 +21,16 @@ use Rattle.plan.proofs.Judged.{accepted-judged}
 use Rattle.plan.proofs.FourKinds.{run-within}
 use Rattle.plan.proofs.AtRecord.{passed-fate}
 use Rattle.plan.proofs.Following.{spliced, at_before, at-run, fate-before, fate-behind, at_last, fate-last}
-use Rattle.judge_record.specs.Way.{Meets, behind, stands}
+use Rattle.judge_record.specs.Way.{behind, stands}
 use Rattle.judge_record.proofs.Ways.{Passes, tree, rows, ahead, Way, Turn, turn, meets, way_ends_low, way_start, way_on, way_origin, last-ahead, all_rows}
-use Rattle.along.specs.Reached.{Reached, Meetable, met}
+use Rattle.along.specs.Met.{Meetable, met}
 
--- what a record does, by the numbers that were read
-module _ (size isize : List ℕ) (s : Stand) (r : Record) (n : ℕ) (f : n ≡ brought isize r) where
-  pub met_asks : Meetable size isize s r → Meets s r n
-  met_asks h = rw f h.meets
-
-  pub met-is : (m : Meeting) (e : OldPre) → e ≡ old_pre (goes_on_at size r) → m ≡ meeting s r e.0 n
-      → m ≡ met size isize s r
-  met-is m e g h = h ∙ (λ c. meeting s r (g c).0 (f c))
+-- the list l passed the tests, and the records of it that are done led to s; the records rs are left
+pub record Reached (t i : Table) (l : List Record) (s : Stand) (rs : List Record) : Type 0 where
+  pub passed : judged (even t && even i) t i l ≡ Passed
+  pub done : List Record
+  pub parts : l ≡ done ++ rs
+  pub there : s ≡ stands t.size i.size start done
 
 -- one record more
 pub stands-more : (size isize : List ℕ) (s : Stand) (ps : List Record) (r : Record)
@@ -55,9 +51,6 @@ module _ (t i : Table) (l : List Record) where
         few = a.few-records;
         passed = a.all_pass;
       }
-
-  abbrev pub reached-start : judged (even t && even i) t i l ≡ Passed → Reached t i l start l
-  reached-start e = record { passed = e; done = []; parts = refl; there = refl }
 
   module _ (s : Stand) (rs : List Record) (h : Reached t i l s rs) where
     abbrev pub place : ℕ

@@ -2,14 +2,13 @@
 -- Assumes nothing.
 use Prim.Native.Nat.{ℕ}
 use mathlib.Core.Path.{◌≡◌, sym}
-use mathlib.Core.Bool.{Bool, true}
-use Rattle.std.specs.Prelude.{Ok, Err, ⊤}
+use mathlib.Core.Bool.{Bool}
+use Rattle.std.specs.Prelude.{Ok, Err}
 use Rattle.plan.specs.Verdict.{Verdict}
 use Rattle.plan.specs.Verdict.{Passed}
 use Rattle.plan.specs.declared.refusal.Refusal.{Refusal}
 use Rattle.plan.specs.Call.{then, test, judgement}
 use Rattle.plan.specs.Told.{failed, judgement_told, verdict_told}
-use Rattle.plan.proofs.Verdicts.{test_true}
 use Rattle.judge.proofs.Told.{needs_told, failed-then, failed-judged}
 
 -- the judgement v of the list, with n rows needed, and the test b
@@ -26,6 +25,3 @@ module _ (v : Verdict) (n : ℕ) (b : Bool) (number place count : ℕ) where
   pub test_refused : (m : ℕ) (e : Refusal) → judgement_told (Ok m) ≡ judgement v n
       → verdict_told (Err e) ≡ test b number place count → both ≡ failed e
   test_refused m e h f = rw ((judged_told m h).0) (sym f)
-
-  pub test_told : (x : ⊤) → verdict_told (Ok x) ≡ test b number place count → b ≡ true
-  test_told x f = test_true b number place count (sym f)

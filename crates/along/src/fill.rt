@@ -1,6 +1,6 @@
 // A part of a lent column that is counted up.
 ghost use Rattle.std.specs.Prelude.{◌≡◌, ◌+◌, ◌≤◌, length};
-ghost use Rattle.along.specs.Laid.{rising};
+ghost use Rattle.along.specs.Rising.{rising};
 
 // It gets the numbers first, first + 1 and so on.
 pub fn count_up(part: &mut [u32], first: u32)

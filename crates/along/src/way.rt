@@ -1,6 +1,6 @@
 // The next record on the way along a list, read from the two columns of sizes.
 ghost use Rattle.std.specs.Prelude.{◌≡◌};
-ghost use Rattle.along.specs.Reached.{Meetable, met as met_of};
+ghost use Rattle.along.specs.Met.{Meetable, met as met_of};
 
 use judge_record::way::{meet, row_behind, run_rows};
 use plan::lent::Table;

@@ -2,7 +2,7 @@
 -- there on left.
 use native.Mathlib.Omega.{arith}
 use Rattle.std.proofs.lemmas.Result.{err_from_is_err_and}
-use Rattle.along.proofs.NewColumns.{odd, list_refused, room_refused, going, step, record-room, row_room, went_on, last}
+use Rattle.along.proofs.NewColumns.{odd, list_refused, room_refused, step, record-room, row_room, went_on, last}
 use Rattle.along.proofs.Reaching.{asks, few-records}
 use Rattle.along.proofs.every_new.map_new.Goals as goal
 use Rattle.along.proofs.every_new.map_new.Goals.{in-Vain, in-Renamed, in-Here}
@@ -20,10 +20,6 @@ returns-in_err-test_room g c =
     let f = c.from_residual-in_err-test_room in
     let p = err_from_is_err_and f.result f.ensures.1 in
     rw (p.1, p.2) (room_refused _ _ _ _ c.if-rows-records.false _ c.in_ok-n.ensures _ c.in_err-test_room.ensures)
-
-pub loop-k-init : goal.loop-k-init
-loop-k-init g c =
-    going _ _ _ _ c.if-rows-records.false _ c.in_ok-n.ensures _ c.in_ok-test_room.ensures _ c.start-s.ensures
 
 pub met-requires : goal.met-requires
 met-requires g c = asks _ _ _ _ _ _ c.loop-k.invariant.reached c.record.ensures

@@ -1,7 +1,7 @@
 -- `along::new_row::new_to_old` meets its contract.
 use native.Mathlib.Omega.{arith}
 use Rattle.std.proofs.lemmas.Result.{err_from_is_err_and}
-use Rattle.along.proofs.NewRows.{list_refused, row_refused, going, step, fits, last}
+use Rattle.along.proofs.NewRows.{list_refused, row_refused, step, fits, last}
 use Rattle.along.proofs.Reaching.{asks, few-records}
 use Rattle.along.proofs.new_row.new_to_old.Goals as goal
 use Rattle.along.proofs.new_row.new_to_old.Goals.{in-Vain, in-Renamed, in-Here+else-row-first+else-row-goes}
@@ -17,14 +17,8 @@ returns-in_err-test_row g c =
     let p = err_from_is_err_and f.result f.ensures.1 in
     rw (p.1, p.2) (row_refused _ _ _ _ _ c.in_ok-n.ensures _ c.in_err-test_row.ensures)
 
-pub loop-k-init : goal.loop-k-init
-loop-k-init g c = going _ _ _ _ _ c.in_ok-n.ensures _ c.in_ok-test_row.ensures _ c.start-s.ensures
-
 pub met-requires : goal.met-requires
 met-requires g c = asks _ _ _ _ _ _ c.loop-k.invariant.reached c.record.ensures
-
-pub overflow_sub-first : goal.overflow_sub-first
-overflow_sub-first g c = (step _ _ _ _ _ c.loop-k.invariant c.record.ensures c.in-Here.ensures).run
 
 pub returns-then-row-first : goal.returns-then-row-first
 returns-then-row-first g c =

@@ -8,18 +8,18 @@ use Rattle.along.proofs.every_new.map_new.Goals as goal
 use Rattle.along.proofs.every_new.map_new.Goals.{in-Vain, in-Renamed, in-Here}
 
 pub returns-then-rows-records : goal.returns-then-rows-records
-returns-then-rows-records g c = odd _ _ _ _ c.if-rows-records.true
+returns-then-rows-records g c = odd _ _ _ _ (λ e. omega arith)
 
 pub returns-in_err-n : goal.returns-in_err-n
 returns-in_err-n g c =
     let p = err_from_is_err_and c.from_residual.result c.from_residual.ensures.1 in
-    rw (p.1, p.2) (list_refused _ _ _ _ c.if-rows-records.false _ c.in_err-n.ensures)
+    rw (p.1, p.2) (list_refused _ _ _ _ (omega arith) _ c.in_err-n.ensures)
 
 pub returns-in_err-test_room : goal.returns-in_err-test_room
 returns-in_err-test_room g c =
     let f = c.from_residual-in_err-test_room in
     let p = err_from_is_err_and f.result f.ensures.1 in
-    rw (p.1, p.2) (room_refused _ _ _ _ c.if-rows-records.false _ c.in_ok-n.ensures _ c.in_err-test_room.ensures)
+    rw (p.1, p.2) (room_refused _ _ _ _ (omega arith) _ c.in_ok-n.ensures _ c.in_err-test_room.ensures)
 
 pub met-requires : goal.met-requires
 met-requires g c = asks _ _ _ _ _ _ c.loop-k.invariant.reached c.record.ensures

@@ -2,7 +2,8 @@
 -- there on left.
 use native.Mathlib.Omega.{arith}
 use Rattle.std.proofs.lemmas.Result.{err_from_is_err_and}
-use Rattle.along.proofs.NewColumns.{odd, list_refused, room_refused, step, record-room, row_room, went_on, last}
+use Rattle.along.proofs.NewColumns.{odd, list_refused, room_refused, step, went_on, last}
+use Rattle.along.proofs.Laying.{part-inside}
 use Rattle.along.proofs.Reaching.{asks, few-records}
 use Rattle.along.proofs.every_new.map_new.Goals as goal
 use Rattle.along.proofs.every_new.map_new.Goals.{in-Vain, in-Renamed, in-Here}
@@ -31,8 +32,8 @@ slice_bounds-fill-end g c =
 
 pub slice_bounds-fill-end-in-Here : goal.slice_bounds-fill-end-in-Here
 slice_bounds-fill-end-in-Here g c =
-    record-room _ _ _ _ (step _ _ _ _ _ c.loop-k.invariant c.record.ensures c.in-Here.ensures)
-    (c.fill.ensures.after (λ y h. h))
+    let s = step _ _ _ _ _ c.loop-k.invariant c.record.ensures c.in-Here.ensures in
+    part-inside _ _ _ s.ahead (omega (arith, s.run, s.record-inside)) _ c.fill.ensures.len s.record-inside
 
 pub overflow_cast-k : goal.overflow_cast-k
 overflow_cast-k g c = omega (arith, few-records _ _ _ _ _ _ c.loop-k.invariant.reached c.record.ensures)
@@ -44,7 +45,8 @@ slice_bounds-count_up-end g c =
 
 pub slice_bounds-count_up-end-in-Here : goal.slice_bounds-count_up-end-in-Here
 slice_bounds-count_up-end-in-Here g c =
-    row_room _ _ _ _ (step _ _ _ _ _ c.loop-k.invariant c.record.ensures c.in-Here.ensures) c.count_up.ensures
+    let s = step _ _ _ _ _ c.loop-k.invariant c.record.ensures c.in-Here.ensures in
+    part-inside _ _ _ s.ahead (omega (arith, s.run, s.row-inside)) _ c.count_up.auto.part s.row-inside
 
 pub loop-k-preserved : goal.loop-k-preserved
 loop-k-preserved g c =

@@ -75,6 +75,13 @@ module _ (u : List ℕ) (a e : ℕ) (h : a ≤ e) (l : e ≤ length u) where
   pub part-length : length (take (e - a) (drop a u)) ≡ e - a
   part-length = omega (arith, length-take-le (e - a) (drop a u), length-drop a u)
 
+  -- the column is as long as before
+  pub part-inside : (ys : List ℕ) {n : ℕ} → length ys ≡ length (take (e - a) (drop a u)) → n ≤ length u
+      → n ≤ length (put_mid a (e - a) u ys)
+  part-inside ys f m =
+      let k : length ys ≡ e - a = omega (arith, part-length) in
+      omega (arith, ap length (laid_part ys u a (e - a) k (omega arith)), laid-length ys u a)
+
   pub counted : {ys : List ℕ} (k : ℕ) → ys ≡ rising (length (take (e - a) (drop a u))) k
       → put_mid a (e - a) u ys ≡ laid (rising (e - a) k) u a
   counted k f = rw (f, part-length) (laid_part (rising (e - a) k) u a (e - a) (rising-length (e - a) k) (omega arith))

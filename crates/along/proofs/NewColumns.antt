@@ -266,7 +266,7 @@ module _ (t i : Table) (l : List Record) (u : Places) where
       old-records : olds ≡ laid (replicate (first - s.out.0) mark) v.records s.out.0
       old-records = filled v.records s.out.0 first h.ahead (omega (arith, h.record-inside)) mark e
 
-      pub record-room : next.out.0 ≤ length olds
+      record-room : next.out.0 ≤ length olds
       record-room =
           omega (
             arith,
@@ -289,7 +289,7 @@ module _ (t i : Table) (l : List Record) (u : Places) where
       old-rows : counts ≡ laid (rising (first - s.out.0) s.row.0) v.rows s.out.0
       old-rows = counted v.rows s.out.0 first h.ahead (omega (arith, h.row-inside)) s.row.0 e
 
-      pub row_room : next.out.0 ≤ length counts
+      row_room : next.out.0 ≤ length counts
       row_room =
           omega (
             arith,

@@ -10,14 +10,14 @@ use lib.Dec.{ltb}
 use lib.ListN.{length, drop}
 use Rattle.std.proofs.lemmas.List.{drop_all}
 use borrow.Author.Tests.{lt-ltb}
-use Rattle.std.specs.Prelude.{Ok, Err}
+use Rattle.std.specs.Prelude.{Result, Ok, Err}
 use Rattle.plan.specs.declared.NewPre.{NewPre}
 use Rattle.plan.specs.declared.Record.{Record}
 use Rattle.plan.specs.declared.Stand.{Stand}
 use Rattle.plan.specs.declared.Meeting.{Meeting}
 use Rattle.plan.specs.declared.Meeting.TheVariants.{Vain, Renamed, Here}
-use Rattle.plan.specs.Mapping.{Was}
-use Rattle.plan.specs.Mapping.{Old, Run}
+use Rattle.plan.specs.declared.Source.{Source}
+use Rattle.plan.specs.declared.Source.TheVariants.{Old, Run}
 use Rattle.plan.specs.Verdict.{Passed}
 use Rattle.plan.specs.declared.refusal.Refusal.{Refusal}
 use Rattle.plan.specs.Tree.{count}
@@ -40,8 +40,8 @@ module _ (x : ℕ) (t i : Table) (l : List Record) where
   rows = count (result t i l)
 
   -- the answer is right
-  abbrev pub Right : Was → Type 0
-  Right b = b ≡ was (queried true t i l rows x) (origin_at (origins (result t i l)) x)
+  abbrev pub Right : Result Source Refusal → Type 0
+  Right a = was_told a ≡ was (queried true t i l rows x) (origin_at (origins (result t i l)) x)
 
   -- the row goes on: it is not passed, and the records rs are left
   pub record Going (s : Stand) (rs : List Record) : Type 0 where
@@ -50,23 +50,24 @@ module _ (x : ℕ) (t i : Table) (l : List Record) where
     pub below : x < rows
 
   -- ---- the tests
-  refused_so : (e : Refusal) → queried true t i l rows x ≡ failed e → Right (was_told (Err e))
+  refused_so : (e : Refusal) → queried true t i l rows x ≡ failed e → Right (Err e)
   refused_so e h = let n = failed-fails e in rw (h, n.is)
 
   pub list_refused : (e : Refusal) → judgement_told (Err e) ≡ published_of (even t && even i) t i l
-      → Right (was_told (Err e))
+      → Right (Err e)
   unfolding queried
   list_refused e h = refused_so e (list-refused _ _ (ltb x rows) 11 x 0 e h)
 
   module _ (n : ℕ) (h : judgement_told (Ok n) ≡ published_of (even t && even i) t i l) where
-    pub row_refused : (e : Refusal) → verdict_told (Err e) ≡ test (ltb x n) 11 x 0 → Right (was_told (Err e))
+    pub row_refused : (e : Refusal) → verdict_told (Err e) ≡ test (ltb x n) 11 x 0 → Right (Err e)
     unfolding queried
     row_refused e f =
         let needed = (judged_told _ _ (ltb x n) 11 x 0 n h).1 in
         refused_so e (test_refused _ _ _ 11 x 0 n e h (rw needed at f))
 
   followed : judged (even t && even i) t i l ≡ Passed → x < rows
-      → (o : Origin) → origin_at (origins (result t i l)) x ≡ o → Right (came o)
+      → (o : Origin) → origin_at (origins (result t i l)) x ≡ o
+      → came o ≡ was (queried true t i l rows x) (origin_at (origins (result t i l)) x)
   unfolding queried
   followed tests b o e = rw (tests, lt-ltb x rows b, e)
 
@@ -88,8 +89,8 @@ module _ (x : ℕ) (t i : Table) (l : List Record) where
   -- at a record where old rows stay or go, it is one that stays, one of the n rows of its run, or goes on
   pub record Passing (s : Stand) (k : ℕ) (rs : List Record) (n : ℕ) (next : Stand) : Type 0 where
     pub run : n ≤ next.out.0
-    pub before : x < next.out.0 - n → Right (Old (old_pre (s.row.0 + (x - s.out.0))))
-    pub within : next.out.0 - n ≤ x → x < next.out.0 → Right (Run k (x - (next.out.0 - n)))
+    pub before : x < next.out.0 - n → Right (Ok (Old (old_pre (s.row.0 + (x - s.out.0)))))
+    pub within : next.out.0 - n ≤ x → x < next.out.0 → Right (Ok (Run k (x - (next.out.0 - n))))
     pub behind : next.out.0 ≤ x → Going next rs
 
   abbrev Step : Stand → ℕ → List Record → Meeting → Type 0
@@ -133,7 +134,7 @@ module _ (x : ℕ) (t i : Table) (l : List Record) where
 
   -- ---- the end
   pub last : {s : Stand} (k : ℕ) → Going s (drop k l) → length l ≤ k
-      → Right (Old (old_pre (s.row.0 + (x - s.out.0))))
+      → Right (Ok (Old (old_pre (s.row.0 + (x - s.out.0)))))
   last {s} k g m =
       let h : Going s [] = rw drop_all at g in
       followed h.reached.passed h.below (old (s.row.0 + (x - s.out.0)))

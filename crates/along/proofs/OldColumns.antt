@@ -189,7 +189,7 @@ module _ (t i : Table) (l : List Record) (u : List ℕ) where
     numbers : counts ≡ laid (rising (at - s.row.0) s.out.0) v s.row.0
     numbers = counted v s.row.0 at h.ahead (omega (arith, h.on, h.inside)) s.out.0 e
 
-    pub gone-inside : next.row.0 ≤ length counts
+    gone-inside : next.row.0 ≤ length counts
     gone-inside = omega (arith, h.inside, ap length numbers, laid-length (rising (at - s.row.0) s.out.0) v s.row.0)
 
     pub went_on : {b : List ℕ} → b ≡ replicate (length (take (next.row.0 - at) (drop at counts))) mark

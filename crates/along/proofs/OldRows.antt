@@ -10,14 +10,13 @@ use lib.Dec.{ltb}
 use lib.ListN.{length, drop}
 use Rattle.std.proofs.lemmas.List.{drop_all}
 use borrow.Author.Tests.{lt-ltb}
-use Rattle.std.specs.Prelude.{Ok, Err}
+use Rattle.std.specs.Prelude.{Option, Some, None, Result, Ok, Err}
 use Rattle.plan.specs.declared.OldPre.{OldPre}
+use Rattle.plan.specs.declared.NewPre.{NewPre}
 use Rattle.plan.specs.declared.Record.{Record}
 use Rattle.plan.specs.declared.Stand.{Stand}
 use Rattle.plan.specs.declared.Meeting.{Meeting}
 use Rattle.plan.specs.declared.Meeting.TheVariants.{Vain, Renamed, Here}
-use Rattle.plan.specs.Mapping.{Became}
-use Rattle.plan.specs.Mapping.{Row, Gone}
 use Rattle.plan.specs.Verdict.{Passed}
 use Rattle.plan.specs.declared.refusal.Refusal.{Refusal}
 use Rattle.plan.specs.Table.{Table, even}
@@ -35,8 +34,8 @@ use Rattle.along.proofs.Reaching.{Reached, passes, way, turned, reached-more, he
 
 module _ (x : ℕ) (t i : Table) (l : List Record) where
   -- the answer is right
-  abbrev pub Right : Became → Type 0
-  Right b = b ≡ became (queried true t i l (length t.size) x) (fate (origins (result t i l)) 0 x)
+  abbrev pub Right : Result (Option NewPre) Refusal → Type 0
+  Right a = became_told a ≡ became (queried true t i l (length t.size) x) (fate (origins (result t i l)) 0 x)
 
   -- the row goes on: it is not passed, and the records rs are left
   pub record Going (s : Stand) (rs : List Record) : Type 0 where
@@ -45,22 +44,23 @@ module _ (x : ℕ) (t i : Table) (l : List Record) where
     pub below : x < length t.size
 
   -- ---- the tests
-  refused_so : (e : Refusal) → queried true t i l (length t.size) x ≡ failed e → Right (became_told (Err e))
+  refused_so : (e : Refusal) → queried true t i l (length t.size) x ≡ failed e → Right (Err e)
   refused_so e h = let n = failed-fails e in rw (h, n.is)
 
   pub list_refused : (e : Refusal) → judgement_told (Err e) ≡ published_of (even t && even i) t i l
-      → Right (became_told (Err e))
+      → Right (Err e)
   unfolding queried
   list_refused e h = refused_so e (list-refused _ _ (ltb x (length t.size)) 11 x 0 e h)
 
   module _ (n : ℕ) (h : judgement_told (Ok n) ≡ published_of (even t && even i) t i l) where
     pub row_refused : (e : Refusal) → verdict_told (Err e) ≡ test (ltb x (length t.size)) 11 x 0
-        → Right (became_told (Err e))
+        → Right (Err e)
     unfolding queried
     row_refused e f = refused_so e (test_refused _ _ _ 11 x 0 n e h f)
 
   followed : judged (even t && even i) t i l ≡ Passed → x < length t.size
-      → (f : Fate) → fate (origins (result t i l)) 0 x ≡ f → Right (went f)
+      → (f : Fate) → fate (origins (result t i l)) 0 x ≡ f
+      → went f ≡ became (queried true t i l (length t.size) x) (fate (origins (result t i l)) 0 x)
   unfolding queried
   followed tests b f e = rw (tests, lt-ltb x (length t.size) b, e)
 
@@ -80,8 +80,8 @@ module _ (x : ℕ) (t i : Table) (l : List Record) where
   -- ---- one record
   -- at a record where old rows stay or go, it is one that stays, one that goes, or it goes on
   pub record Passing (s : Stand) (rs : List Record) (at : ℕ) (next : Stand) : Type 0 where
-    pub before : x < at → Right (Row (new_pre (s.out.0 + (x - s.row.0))))
-    pub taken : at ≤ x → x < next.row.0 → Right Gone
+    pub before : x < at → Right (Ok (Some (new_pre (s.out.0 + (x - s.row.0)))))
+    pub taken : at ≤ x → x < next.row.0 → Right (Ok None)
     pub behind : next.row.0 ≤ x → Going next rs
 
   abbrev Step : Stand → List Record → Meeting → Type 0
@@ -119,7 +119,7 @@ module _ (x : ℕ) (t i : Table) (l : List Record) where
 
   -- ---- the end
   pub last : {s : Stand} (k : ℕ) → Going s (drop k l) → length l ≤ k
-      → Right (Row (new_pre (s.out.0 + (x - s.row.0))))
+      → Right (Ok (Some (new_pre (s.out.0 + (x - s.row.0)))))
   last {s} k g m =
       let h : Going s [] = rw drop_all at g in
       followed h.reached.passed h.below (row (s.out.0 + (x - s.row.0)))

@@ -12,7 +12,8 @@ use plan::lent::{Records, Table};
 use plan::refusal::Refusal;
 use plan::{Meeting, Record, Stand};
 
-// The origins up to each record, and those of its run.
+// The origins up to each record, and those of its run. The two columns are lent apart in C, and a struct of them would
+// be no plainer.
 pub fn map_new<L: Records>(
     t: Table,
     l: &L,

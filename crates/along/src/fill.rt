@@ -2,7 +2,8 @@
 ghost use Rattle.std.specs.Prelude.{◌≡◌, ◌+◌, ◌≤◌, length};
 ghost use Rattle.along.specs.Rising.{rising};
 
-// It gets the numbers first, first + 1 and so on.
+// It gets the numbers first, first + 1 and so on. The last may be the largest there is, so no range `first..` counts
+// them: its next number would not fit.
 pub fn count_up(part: &mut [u32], first: u32)
     requires { first + length part.old ≤ 4294967296 }
     ensures { part.new ≡ rising (length part.old) first }

@@ -2,24 +2,25 @@
 -- there on left.
 use native.Mathlib.Omega.{arith}
 use Rattle.std.proofs.lemmas.Result.{err_from_is_err_and}
-use Rattle.along.proofs.NewColumns.{odd, list_refused, room_refused, step, record-room, row_room, went_on, last}
+use Rattle.along.proofs.NewColumns.{odd, list_refused, room_refused, step, went_on, last}
+use Rattle.along.proofs.Laying.{part-inside}
 use Rattle.along.proofs.Reaching.{asks, few-records}
 use Rattle.along.proofs.every_new.map_new.Goals as goal
 use Rattle.along.proofs.every_new.map_new.Goals.{in-Vain, in-Renamed, in-Here}
 
 pub returns-then-rows-records : goal.returns-then-rows-records
-returns-then-rows-records g c = odd _ _ _ _ c.if-rows-records.true
+returns-then-rows-records g c = odd _ _ _ _ (λ e. omega arith)
 
 pub returns-in_err-n : goal.returns-in_err-n
 returns-in_err-n g c =
     let p = err_from_is_err_and c.from_residual.result c.from_residual.ensures.1 in
-    rw (p.1, p.2) (list_refused _ _ _ _ c.if-rows-records.false _ c.in_err-n.ensures)
+    rw (p.1, p.2) (list_refused _ _ _ _ (omega arith) _ c.in_err-n.ensures)
 
 pub returns-in_err-test_room : goal.returns-in_err-test_room
 returns-in_err-test_room g c =
     let f = c.from_residual-in_err-test_room in
     let p = err_from_is_err_and f.result f.ensures.1 in
-    rw (p.1, p.2) (room_refused _ _ _ _ c.if-rows-records.false _ c.in_ok-n.ensures _ c.in_err-test_room.ensures)
+    rw (p.1, p.2) (room_refused _ _ _ _ (omega arith) _ c.in_ok-n.ensures _ c.in_err-test_room.ensures)
 
 pub met-requires : goal.met-requires
 met-requires g c = asks _ _ _ _ _ _ c.loop-k.invariant.reached c.record.ensures
@@ -31,8 +32,8 @@ slice_bounds-fill-end g c =
 
 pub slice_bounds-fill-end-in-Here : goal.slice_bounds-fill-end-in-Here
 slice_bounds-fill-end-in-Here g c =
-    record-room _ _ _ _ (step _ _ _ _ _ c.loop-k.invariant c.record.ensures c.in-Here.ensures)
-    (c.fill.ensures.after (λ y h. h))
+    let s = step _ _ _ _ _ c.loop-k.invariant c.record.ensures c.in-Here.ensures in
+    part-inside _ _ _ s.ahead (omega (arith, s.run, s.record-inside)) _ c.fill.ensures.len s.record-inside
 
 pub overflow_cast-k : goal.overflow_cast-k
 overflow_cast-k g c = omega (arith, few-records _ _ _ _ _ _ c.loop-k.invariant.reached c.record.ensures)
@@ -44,7 +45,8 @@ slice_bounds-count_up-end g c =
 
 pub slice_bounds-count_up-end-in-Here : goal.slice_bounds-count_up-end-in-Here
 slice_bounds-count_up-end-in-Here g c =
-    row_room _ _ _ _ (step _ _ _ _ _ c.loop-k.invariant c.record.ensures c.in-Here.ensures) c.count_up.ensures
+    let s = step _ _ _ _ _ c.loop-k.invariant c.record.ensures c.in-Here.ensures in
+    part-inside _ _ _ s.ahead (omega (arith, s.run, s.row-inside)) _ c.count_up.auto.part s.row-inside
 
 pub loop-k-preserved : goal.loop-k-preserved
 loop-k-preserved g c =

@@ -2,7 +2,8 @@
 -- there on left.
 use native.Mathlib.Omega.{arith}
 use Rattle.std.proofs.lemmas.Result.{err_from_is_err_and}
-use Rattle.along.proofs.OldColumns.{list_refused, room_refused, step, gone-inside, went_on, last}
+use Rattle.along.proofs.OldColumns.{list_refused, room_refused, step, went_on, last}
+use Rattle.along.proofs.Laying.{part-inside}
 use Rattle.along.proofs.Reaching.{asks}
 use Rattle.along.proofs.every_old.map_old.Goals as goal
 use Rattle.along.proofs.every_old.map_old.Goals.{in-Vain, in-Renamed, in-Here}
@@ -34,7 +35,8 @@ slice_bounds-count_up-end g c =
 
 pub slice_bounds-fill-end : goal.slice_bounds-fill-end
 slice_bounds-fill-end g c =
-    gone-inside _ _ _ _ (step _ _ _ _ _ c.loop-k.invariant c.record.ensures c.in-Here.ensures) c.count_up.ensures
+    let s = step _ _ _ _ _ c.loop-k.invariant c.record.ensures c.in-Here.ensures in
+    part-inside _ _ _ s.ahead (omega (arith, s.on, s.inside)) _ c.count_up.auto.part s.inside
 
 pub loop-k-preserved : goal.loop-k-preserved
 loop-k-preserved g c =

@@ -4,6 +4,7 @@
 
 use mapping::{map_new, map_old, new_to_old, old_to_new};
 use out::{column, heading, worked};
+use plan::lent::Changes;
 use plan::{Answer, Became, NewPre, OldPre, Was};
 use std::io;
 
@@ -40,35 +41,24 @@ fn tell_answer(rt: &impl Print, a: Answer) -> io::Result<()> {
 }
 
 // Every old row, and the first that is none.
-fn rows_old(
-    rt: &impl Print,
-    kind: &[u32],
-    location: &[u32],
-    parent: &[u32],
-    from: &[u32],
-    values: &[u32],
-) -> io::Result<()> {
-    let dist = worked::DIST;
-    let size = worked::SIZE;
-    let value = worked::VALUE;
-    let idist = worked::RUN_DIST;
-    let isize = worked::RUN_SIZE;
-    let ivalue = worked::RUN_VALUE;
+fn rows_old(rt: &impl Print, l: Changes) -> io::Result<()> {
+    let t = worked::TABLE;
+    let i = worked::INSERTIONS;
     for r in 0..8 {
         tell_became(
             rt,
             old_to_new(
-                &dist,
-                &size,
-                &value,
-                kind,
-                location,
-                parent,
-                from,
-                values,
-                &idist,
-                &isize,
-                &ivalue,
+                t.dist,
+                t.size,
+                t.value,
+                l.kind,
+                l.location,
+                l.parent,
+                l.from,
+                l.value,
+                i.dist,
+                i.size,
+                i.value,
                 OldPre(r),
             ),
         )?;
@@ -77,35 +67,24 @@ fn rows_old(
 }
 
 // Every new row, and the first that is none, up to row 8.
-fn rows_new(
-    rt: &impl Print,
-    kind: &[u32],
-    location: &[u32],
-    parent: &[u32],
-    from: &[u32],
-    values: &[u32],
-) -> io::Result<()> {
-    let dist = worked::DIST;
-    let size = worked::SIZE;
-    let value = worked::VALUE;
-    let idist = worked::RUN_DIST;
-    let isize = worked::RUN_SIZE;
-    let ivalue = worked::RUN_VALUE;
+fn rows_new(rt: &impl Print, l: Changes) -> io::Result<()> {
+    let t = worked::TABLE;
+    let i = worked::INSERTIONS;
     for r in 0..9 {
         tell_was(
             rt,
             new_to_old(
-                &dist,
-                &size,
-                &value,
-                kind,
-                location,
-                parent,
-                from,
-                values,
-                &idist,
-                &isize,
-                &ivalue,
+                t.dist,
+                t.size,
+                t.value,
+                l.kind,
+                l.location,
+                l.parent,
+                l.from,
+                l.value,
+                i.dist,
+                i.size,
+                i.value,
                 NewPre(r),
             ),
         )?;
@@ -114,26 +93,14 @@ fn rows_new(
 }
 
 // The new number of every old row, into the lent column.
-fn column_old(
-    rt: &impl Print,
-    kind: &[u32],
-    location: &[u32],
-    parent: &[u32],
-    from: &[u32],
-    values: &[u32],
-    number: &mut [u32],
-) -> io::Result<()> {
-    let dist = worked::DIST;
-    let size = worked::SIZE;
-    let value = worked::VALUE;
-    let idist = worked::RUN_DIST;
-    let isize = worked::RUN_SIZE;
-    let ivalue = worked::RUN_VALUE;
+fn column_old(rt: &impl Print, l: Changes, number: &mut [u32]) -> io::Result<()> {
+    let t = worked::TABLE;
+    let i = worked::INSERTIONS;
     tell_answer(
         rt,
         map_old(
-            &dist, &size, &value, kind, location, parent, from, values, &idist, &isize, &ivalue,
-            number,
+            t.dist, t.size, t.value, l.kind, l.location, l.parent, l.from, l.value, i.dist, i.size,
+            i.value, number,
         ),
     )?;
     print!(rt; "\n    number:")?;
@@ -144,25 +111,17 @@ fn column_old(
 // The origin of every new row, into the lent columns.
 fn columns_new(
     rt: &impl Print,
-    kind: &[u32],
-    location: &[u32],
-    parent: &[u32],
-    from: &[u32],
-    values: &[u32],
+    l: Changes,
     records: &mut [u32],
     rows: &mut [u32],
 ) -> io::Result<()> {
-    let dist = worked::DIST;
-    let size = worked::SIZE;
-    let value = worked::VALUE;
-    let idist = worked::RUN_DIST;
-    let isize = worked::RUN_SIZE;
-    let ivalue = worked::RUN_VALUE;
+    let t = worked::TABLE;
+    let i = worked::INSERTIONS;
     tell_answer(
         rt,
         map_new(
-            &dist, &size, &value, kind, location, parent, from, values, &idist, &isize, &ivalue,
-            records, rows,
+            t.dist, t.size, t.value, l.kind, l.location, l.parent, l.from, l.value, i.dist, i.size,
+            i.value, records, rows,
         ),
     )?;
     print!(rt; "\n    record:")?;
@@ -173,60 +132,34 @@ fn columns_new(
 }
 
 // Both mappings of a list on T, row by row and as whole columns of 9 rows that hold 99.
-fn on_t(
-    rt: &impl Print,
-    name: &str,
-    kind: &[u32],
-    location: &[u32],
-    parent: &[u32],
-    from: &[u32],
-    values: &[u32],
-) -> io::Result<()> {
+fn on_t(rt: &impl Print, name: &str, l: Changes) -> io::Result<()> {
     let mut number: [u32; 9] = [99; 9];
     let mut record: [u32; 9] = [99; 9];
     let mut row: [u32; 9] = [99; 9];
     print!(rt; "{name}\n  old to new:")?;
-    rows_old(rt, kind, location, parent, from, values)?;
+    rows_old(rt, l)?;
     print!(rt; "\n  new to old:")?;
-    rows_new(rt, kind, location, parent, from, values)?;
+    rows_new(rt, l)?;
     print!(rt; "\n  every old row:")?;
-    column_old(rt, kind, location, parent, from, values, &mut number)?;
+    column_old(rt, l, &mut number)?;
     print!(rt; "  every new row:")?;
-    columns_new(
-        rt,
-        kind,
-        location,
-        parent,
-        from,
-        values,
-        &mut record,
-        &mut row,
-    )
+    columns_new(rt, l, &mut record, &mut row)
 }
 
 // Case A, with lent columns that are a row short, just long enough, or differ in length.
 fn on_short(rt: &impl Print) -> io::Result<()> {
-    let kind: [u32; 3] = [2, 1, 2];
-    let location: [u32; 3] = [2, 4, 6];
-    let parent: [u32; 3] = [1, 0, 0];
-    let from: [u32; 3] = [2, 0, 0];
-    let values: [u32; 3] = [0, 0, 0];
     let mut six: [u32; 6] = [99; 6];
     let mut seven: [u32; 7] = [99; 7];
     let mut eight: [u32; 8] = [99; 8];
     let mut other: [u32; 8] = [99; 8];
     print!(rt; "A, a column of 6 rows:")?;
-    column_old(rt, &kind, &location, &parent, &from, &values, &mut six)?;
+    column_old(rt, worked::A, &mut six)?;
     print!(rt; "A, a column of 7 rows:")?;
-    column_old(rt, &kind, &location, &parent, &from, &values, &mut seven)?;
+    column_old(rt, worked::A, &mut seven)?;
     print!(rt; "A, columns of 6 and 7 rows:")?;
-    columns_new(
-        rt, &kind, &location, &parent, &from, &values, &mut six, &mut seven,
-    )?;
+    columns_new(rt, worked::A, &mut six, &mut seven)?;
     print!(rt; "A, columns of 8 rows:")?;
-    columns_new(
-        rt, &kind, &location, &parent, &from, &values, &mut eight, &mut other,
-    )
+    columns_new(rt, worked::A, &mut eight, &mut other)
 }
 
 fn main(rt: HostRuntime) -> io::Result<()> {
@@ -234,28 +167,12 @@ fn main(rt: HostRuntime) -> io::Result<()> {
         &rt,
         "both mappings of lists on T; the last rows asked about are not in the table",
     )?;
-    on_t(
-        &rt,
-        "A",
-        &[2, 1, 2],
-        &[2, 4, 6],
-        &[1, 0, 0],
-        &[2, 0, 0],
-        &[0, 0, 0],
-    )?;
-    on_t(
-        &rt,
-        "B",
-        &[1, 2, 2],
-        &[4, 6, 6],
-        &[0, 4, 0],
-        &[0, 2, 0],
-        &[0, 0, 0],
-    )?;
-    on_t(&rt, "C", &[2, 2], &[6, 6], &[0, 4], &[0, 2], &[0, 0])?;
-    on_t(&rt, "D", &[2, 1], &[4, 4], &[0, 0], &[2, 0], &[0, 0])?;
-    on_t(&rt, "I", &[2], &[3], &[2], &[2], &[0])?;
-    on_t(&rt, "K", &[4], &[1], &[0], &[2], &[0])?;
+    on_t(&rt, "A", worked::A)?;
+    on_t(&rt, "B", worked::B)?;
+    on_t(&rt, "C", worked::C)?;
+    on_t(&rt, "D", worked::D)?;
+    on_t(&rt, "I", worked::I)?;
+    on_t(&rt, "K", worked::K)?;
     heading(&rt, "lent columns")?;
     on_short(&rt)
 }

@@ -3,33 +3,11 @@
 #![tactic(auto)]
 
 use out::{column, flat, heading, worked};
-use plan::Record;
 use plan::lent::{Changes, Table};
+use plan::Record;
 use plan::refusal::Refusal;
 use refresh::{bulk, single};
 use std::io;
-
-// The worked plan's table T, and its insertions.
-const T: Table = Table {
-    dist: &worked::DIST,
-    size: &worked::SIZE,
-    value: &worked::VALUE,
-};
-
-const RUNS: Table = Table {
-    dist: &worked::RUN_DIST,
-    size: &worked::RUN_SIZE,
-    value: &worked::RUN_VALUE,
-};
-
-// Case A.
-const A: Changes = Changes {
-    kind: &[Record::INSERT, Record::DELETE, Record::INSERT],
-    location: &[2, 4, 6],
-    parent: &[1, 0, 0],
-    from: &[2, 0, 0],
-    value: &[0, 0, 0],
-};
 
 // The answer, to the end of the line.
 fn told(rt: &impl Print, answer: Result<u64, Refusal>) -> io::Result<()> {
@@ -40,52 +18,50 @@ fn told(rt: &impl Print, answer: Result<u64, Refusal>) -> io::Result<()> {
 }
 
 // A list on T, with new columns of 9 rows that hold 99.
-fn on_t(rt: &impl Print, name: &str, list: Changes) -> io::Result<()> {
-    let mut dist = [99; 9];
-    let mut size = [99; 9];
-    let mut value = [99; 9];
+fn on_t(rt: &impl Print, name: &str, l: Changes) -> io::Result<()> {
+    let mut ndist = [99; 9];
+    let mut nsize = [99; 9];
+    let mut nvalue = [99; 9];
     print!(rt; "{name}: ")?;
-    told(rt, bulk(T, list, RUNS, &mut dist, &mut size, &mut value))?;
+    told(
+        rt,
+        bulk(
+            worked::TABLE,
+            l,
+            worked::INSERTIONS,
+            &mut ndist,
+            &mut nsize,
+            &mut nvalue,
+        ),
+    )?;
     print!(rt; "  dist:")?;
-    column(rt, &dist)?;
+    column(rt, &ndist)?;
     print!(rt; "\n  size:")?;
-    column(rt, &size)?;
+    column(rt, &nsize)?;
     print!(rt; "\n  value:")?;
-    column(rt, &value)?;
+    column(rt, &nvalue)?;
     println!(rt)
 }
 
 // Case L: A with new columns of 7 rows.
 fn short(rt: &impl Print) -> io::Result<()> {
-    let mut dist = [99; 7];
-    let mut size = [99; 7];
-    let mut value = [99; 7];
+    let mut ndist = [99; 7];
+    let mut nsize = [99; 7];
+    let mut nvalue = [99; 7];
     print!(rt; "L: ")?;
-    told(rt, bulk(T, A, RUNS, &mut dist, &mut size, &mut value))?;
-    print!(rt; "  dist:")?;
-    column(rt, &dist)?;
-    println!(rt)
-}
-
-// The single call: delete 4 on T.
-fn alone(rt: &impl Print) -> io::Result<()> {
-    let delete = Record {
-        kind: Record::DELETE,
-        location: 4,
-        parent: 0,
-        from: 0,
-        value: 0,
-    };
-    let mut dist = [99; 7];
-    let mut size = [99; 7];
-    let mut value = [99; 7];
-    print!(rt; "single, delete 4: ")?;
     told(
         rt,
-        single(T, delete, RUNS, &mut dist, &mut size, &mut value),
+        bulk(
+            worked::TABLE,
+            worked::A,
+            worked::INSERTIONS,
+            &mut ndist,
+            &mut nsize,
+            &mut nvalue,
+        ),
     )?;
-    print!(rt; "  value:")?;
-    column(rt, &value)?;
+    print!(rt; "  dist:")?;
+    column(rt, &ndist)?;
     println!(rt)
 }
 
@@ -104,110 +80,66 @@ fn on_flat(
     let mut nsize = [0u32; 65535];
     let mut nvalue = [0u32; 65535];
     flat(&mut dist, &mut size, 65535);
-    let table = Table {
+    let t = Table {
         dist: &dist,
         size: &size,
         value: &value,
     };
-    let list = Changes {
+    let l = Changes {
         kind,
         location,
         parent: none,
         from: none,
         value: none,
     };
-    let one = Table {
+    let i = Table {
         dist: &[1],
         size: &[1],
         value: &[1],
     };
     print!(rt; "{name}: ")?;
+    told(rt, bulk(t, l, i, &mut ndist, &mut nsize, &mut nvalue))
+}
+
+// The single call: delete 4 on T.
+fn alone(rt: &impl Print) -> io::Result<()> {
+    let delete = Record {
+        kind: Record::DELETE,
+        location: 4,
+        parent: 0,
+        from: 0,
+        value: 0,
+    };
+    let mut ndist = [99; 7];
+    let mut nsize = [99; 7];
+    let mut nvalue = [99; 7];
+    print!(rt; "single, delete 4: ")?;
     told(
         rt,
-        bulk(table, list, one, &mut ndist, &mut nsize, &mut nvalue),
-    )
+        single(
+            worked::TABLE,
+            delete,
+            worked::INSERTIONS,
+            &mut ndist,
+            &mut nsize,
+            &mut nvalue,
+        ),
+    )?;
+    print!(rt; "  value:")?;
+    column(rt, &nvalue)?;
+    println!(rt)
 }
 
 fn main(rt: HostRuntime) -> io::Result<()> {
     heading(&rt, "lists on T; new columns of 9 rows that hold 99")?;
-    on_t(&rt, "A", A)?;
-    on_t(
-        &rt,
-        "B",
-        Changes {
-            kind: &[1, 2, 2],
-            location: &[4, 6, 6],
-            parent: &[0, 4, 0],
-            from: &[0, 2, 0],
-            value: &[0, 0, 0],
-        },
-    )?;
-    on_t(
-        &rt,
-        "C",
-        Changes {
-            kind: &[2, 2],
-            location: &[6, 6],
-            parent: &[0, 4],
-            from: &[0, 2],
-            value: &[0, 0],
-        },
-    )?;
-    on_t(
-        &rt,
-        "D",
-        Changes {
-            kind: &[2, 1],
-            location: &[4, 4],
-            parent: &[0, 0],
-            from: &[2, 0],
-            value: &[0, 0],
-        },
-    )?;
-    on_t(
-        &rt,
-        "G, rename",
-        Changes {
-            kind: &[3],
-            location: &[0],
-            parent: &[0],
-            from: &[0],
-            value: &[9],
-        },
-    )?;
-    on_t(
-        &rt,
-        "I",
-        Changes {
-            kind: &[2],
-            location: &[3],
-            parent: &[2],
-            from: &[2],
-            value: &[0],
-        },
-    )?;
-    on_t(
-        &rt,
-        "J",
-        Changes {
-            kind: &[],
-            location: &[],
-            parent: &[],
-            from: &[],
-            value: &[],
-        },
-    )?;
-    on_t(
-        &rt,
-        "K",
-        Changes {
-            kind: &[4],
-            location: &[1],
-            parent: &[0],
-            from: &[2],
-            value: &[0],
-        },
-    )?;
+    on_t(&rt, "A", worked::A)?;
+    on_t(&rt, "B", worked::B)?;
+    on_t(&rt, "C", worked::C)?;
+    on_t(&rt, "D", worked::D)?;
+    on_t(&rt, "G, rename", worked::G)?;
+    on_t(&rt, "I", worked::I)?;
+    on_t(&rt, "J", worked::J)?;
+    on_t(&rt, "K", worked::K)?;
     short(&rt)?;
     alone(&rt)?;
     heading(&rt, "the flat table of 65,535 rows")?;

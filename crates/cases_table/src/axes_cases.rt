@@ -1,64 +1,77 @@
 // The axes.
 use crate::told;
 use out::{column, heading, worked};
-use plan::Found;
+use plan::lent::Table;
+use plan::refusal::RowRefusal;
 use std::io;
 use table::axes::{first_child, next_sibling, parent, subtree, subtree_top};
 
 // One answer, after its question.
-fn line(rt: &impl Print, question: &str, r: u32, f: Found) -> io::Result<()> {
+fn line(
+    rt: &impl Print,
+    question: &str,
+    r: u32,
+    a: Result<Option<usize>, RowRefusal>,
+) -> io::Result<()> {
     print!(rt; "{question} {r}: ")?;
-    told::found(rt, f)
+    told::found(rt, a)
 }
 
 // Every axis of row r.
-fn row(rt: &impl Print, dist: &[u32], size: &[u32], value: &[u32], r: u32) -> io::Result<()> {
-    line(rt, "parent of", r, parent(dist, size, value, r))?;
-    line(rt, "first child of", r, first_child(dist, size, value, r))?;
-    line(rt, "next sibling of", r, next_sibling(dist, size, value, r))?;
-    line(rt, "subtree of", r, subtree_top(dist, size, value, r))?;
+fn row(rt: &impl Print, t: Table, r: u32) -> io::Result<()> {
+    line(rt, "parent of", r, parent(t, r))?;
+    line(rt, "first child of", r, first_child(t, r))?;
+    line(rt, "next sibling of", r, next_sibling(t, r))?;
+    line(rt, "subtree of", r, subtree_top(t, r).map(|x| Some(x)))?;
     print!(rt; "  values:")?;
-    column(rt, subtree(dist, size, value, r))?;
+    column(rt, subtree(t, r))?;
     println!(rt)
 }
 
 // Every axis of the rows before n.
-fn rows(rt: &impl Print, dist: &[u32], size: &[u32], value: &[u32], n: u32) -> io::Result<()> {
+fn rows(rt: &impl Print, t: Table, n: u32) -> io::Result<()> {
     for r in 0..n {
-        row(rt, dist, size, value, r)?;
+        row(rt, t, r)?;
     }
     Ok(())
 }
 
 fn worked_table(rt: &impl Print) -> io::Result<()> {
-    let dist = worked::DIST;
-    let size = worked::SIZE;
-    let value = worked::VALUE;
     heading(rt, "T, every row, then rows 7 and 4294967295")?;
-    rows(rt, &dist, &size, &value, 7)?;
-    row(rt, &dist, &size, &value, 7)?;
-    row(rt, &dist, &size, &value, 4294967295)
+    rows(rt, worked::TABLE, 7)?;
+    row(rt, worked::TABLE, 7)?;
+    row(rt, worked::TABLE, 4294967295)
 }
 
 fn lengths(rt: &impl Print) -> io::Result<()> {
-    let dist = worked::DIST;
-    let size = worked::SIZE;
-    let value = worked::VALUE;
+    let short = Table {
+        value: &worked::TABLE.value[..6],
+        ..worked::TABLE
+    };
+    let empty = Table {
+        dist: &[],
+        size: &[],
+        value: &[],
+    };
     heading(
         rt,
         "T with values one row short: row 0, then row 4294967295",
     )?;
-    row(rt, &dist, &size, &value[..6], 0)?;
-    row(rt, &dist, &size, &value[..6], 4294967295)?;
+    row(rt, short, 0)?;
+    row(rt, short, 4294967295)?;
     heading(rt, "no rows: row 0")?;
-    row(rt, &dist[..0], &size[..0], &value[..0], 0)
+    row(rt, empty, 0)
 }
 
 // Every row of a table of three.
 fn three(rt: &impl Print, name: &str, dist: [u32; 3], size: [u32; 3]) -> io::Result<()> {
-    let value: [u32; 3] = [10, 20, 30];
+    let t = Table {
+        dist: &dist,
+        size: &size,
+        value: &[10, 20, 30],
+    };
     heading(rt, name)?;
-    rows(rt, &dist, &size, &value, 3)
+    rows(rt, t, 3)
 }
 
 fn threes(rt: &impl Print) -> io::Result<()> {

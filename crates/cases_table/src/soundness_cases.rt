@@ -1,89 +1,84 @@
 // The soundness call, and the first bad row.
+ghost use Rattle.std.specs.Prelude.{◌≤◌};
+
 use crate::told;
 use out::{flat, heading, worked};
+use plan::lent::Table;
 use std::io;
 use table::climb::first_bad;
 use table::sound::{is_sound, soundness};
 
 // What is said of one table, after its name.
-fn case(rt: &impl Print, name: &str, dist: &[u32], size: &[u32], value: &[u32]) -> io::Result<()> {
+fn case(rt: &impl Print, name: &str, t: Table) -> io::Result<()> {
     print!(rt; "{name}: ")?;
-    told::answer(rt, soundness(dist, size, value))?;
+    told::answer(rt, soundness(t))?;
     print!(rt; "  first bad row: ")?;
-    told::shape(rt, first_bad(dist, size))
+    told::row(rt, first_bad(t.dist, t.size))
 }
 
-// Are rows f to e of the columns a run that is sound by itself?
-fn run(
-    rt: &impl Print,
-    dist: &[u32],
-    size: &[u32],
-    value: &[u32],
-    f: usize,
-    e: usize,
-) -> io::Result<()> {
-    if f > e {
-        return Ok(());
-    }
-    if e > dist.len() {
-        return Ok(());
-    }
-    if e > size.len() {
-        return Ok(());
-    }
-    if e > value.len() {
-        return Ok(());
-    }
-    let sound = is_sound(&dist[f..e], &size[f..e], &value[f..e]);
+// Are rows f to e of the insertions a run that is sound by itself?
+fn run(rt: &impl Print, f: usize, e: usize) -> io::Result<()>
+    requires from_to { f ≤ e }
+    requires within { e ≤ 3 }
+{
+    let i = worked::INSERTIONS;
+    let part = Table {
+        dist: &i.dist[f..e],
+        size: &i.size[f..e],
+        value: &i.value[f..e],
+    };
+    let sound = is_sound(part);
     let told = if sound { "sound" } else { "not sound" };
     println!(rt; "insertions from {f} to {e}: {told}")
 }
 
-// The first m rows of the columns.
-fn first_rows(
-    rt: &impl Print,
-    dist: &[u32],
-    size: &[u32],
-    value: &[u32],
-    m: usize,
-) -> io::Result<()> {
-    if m > dist.len() {
-        return Ok(());
-    }
-    if m > size.len() {
-        return Ok(());
-    }
-    if m > value.len() {
-        return Ok(());
-    }
-    print!(rt; "flat, {m}")?;
-    case(rt, " rows", &dist[..m], &size[..m], &value[..m])
-}
-
-// The flat table of n rows, in columns of 65,536.
-fn flat_case(rt: &impl Print, n: u32) -> io::Result<()> {
+// The flat table of n rows.
+fn flat_case(rt: &impl Print, n: u32) -> io::Result<()>
+    requires { n ≤ 65536 }
+{
     let mut dist = [0u32; 65536];
     let mut size = [0u32; 65536];
     let value = [0u32; 65536];
     flat(&mut dist, &mut size, n);
-    first_rows(rt, &dist, &size, &value, n as usize)
+    let m = n as usize;
+    let t = Table {
+        dist: &dist[..m],
+        size: &size[..m],
+        value: &value[..m],
+    };
+    print!(rt; "flat, {n}")?;
+    case(rt, " rows", t)
 }
 
 // The table T, no rows, and columns that differ in length.
 fn lengths(rt: &impl Print) -> io::Result<()> {
-    let dist = worked::DIST;
-    let size = worked::SIZE;
-    let value = worked::VALUE;
-    case(rt, "T", &dist, &size, &value)?;
-    case(rt, "no rows", &dist[..0], &size[..0], &value[..0])?;
-    case(rt, "values one row short", &dist, &size, &value[..6])?;
-    case(rt, "dists one row short", &dist[..6], &size, &value)
+    let empty = Table {
+        dist: &[],
+        size: &[],
+        value: &[],
+    };
+    let few_values = Table {
+        value: &worked::TABLE.value[..6],
+        ..worked::TABLE
+    };
+    let few_dists = Table {
+        dist: &worked::TABLE.dist[..6],
+        ..worked::TABLE
+    };
+    case(rt, "T", worked::TABLE)?;
+    case(rt, "no rows", empty)?;
+    case(rt, "values one row short", few_values)?;
+    case(rt, "dists one row short", few_dists)
 }
 
 // A table of three rows.
 fn three(rt: &impl Print, name: &str, dist: [u32; 3], size: [u32; 3]) -> io::Result<()> {
-    let value: [u32; 3] = [10, 20, 30];
-    case(rt, name, &dist, &size, &value)
+    let t = Table {
+        dist: &dist,
+        size: &size,
+        value: &[10, 20, 30],
+    };
+    case(rt, name, t)
 }
 
 fn threes(rt: &impl Print) -> io::Result<()> {
@@ -115,13 +110,10 @@ fn huge(rt: &impl Print) -> io::Result<()> {
 }
 
 fn runs(rt: &impl Print) -> io::Result<()> {
-    let dist = worked::RUN_DIST;
-    let size = worked::RUN_SIZE;
-    let value = worked::RUN_VALUE;
-    run(rt, &dist, &size, &value, 0, 2)?;
-    run(rt, &dist, &size, &value, 2, 3)?;
-    run(rt, &dist, &size, &value, 0, 3)?;
-    run(rt, &dist, &size, &value, 1, 1)
+    run(rt, 0, 2)?;
+    run(rt, 2, 3)?;
+    run(rt, 0, 3)?;
+    run(rt, 1, 1)
 }
 
 pub fn all(rt: &impl Print) -> io::Result<()> {

@@ -1,49 +1,42 @@
 // The answers of the calls, in words.
-use plan::{Answer, Found, Walk};
+use plan::Child;
+use plan::refusal::{Misfit, Refusal, RowRefusal};
 use std::io;
-use table::climb::Shape;
 
-// The answer of a whole call, to the end of the line.
-pub fn answer(rt: &impl Print, a: Answer) -> io::Result<()> {
-    if a.number == 0 {
-        print!(rt; "accepted")?;
-    } else {
-        print!(rt; "refused {}", a.number)?;
+// The answer of the soundness call, to the end of the line.
+pub fn answer(rt: &impl Print, a: Result<u64, Refusal>) -> io::Result<()> {
+    match a {
+        Ok(rows) => println!(rt; "accepted, place 0, count {rows}"),
+        Err(e) => println!(rt; "{e}"),
     }
-    println!(rt; ", place {}, count {}", a.place, a.count)
+}
+
+// A row, or none, to the end of the line.
+pub fn row(rt: &impl Print, x: Option<usize>) -> io::Result<()> {
+    match x {
+        Some(x) => println!(rt; "{x}"),
+        None => println!(rt; "none"),
+    }
 }
 
 // The answer of an axis, to the end of the line.
-pub fn found(rt: &impl Print, f: Found) -> io::Result<()> {
-    match f {
-        Found::Row(x) => println!(rt; "{x}"),
-        Found::Nothing => println!(rt; "none"),
-        Found::Refused(n, place) => println!(rt; "refused {n}, place {place}"),
+pub fn found(rt: &impl Print, a: Result<Option<usize>, RowRefusal>) -> io::Result<()> {
+    match a {
+        Ok(x) => row(rt, x),
+        Err(e) => println!(rt; "{e}"),
     }
 }
 
-// The first bad row of a table, to the end of the line.
-pub fn shape(rt: &impl Print, s: Shape) -> io::Result<()> {
-    match s {
-        Shape::Tree => println!(rt; "none"),
-        Shape::BadAt(x) => println!(rt; "{x}"),
-    }
+// The row that a walk starts at, to the end of the line.
+pub fn start(rt: &impl Print, a: Result<usize, RowRefusal>) -> io::Result<()> {
+    found(rt, a.map(|x| Some(x)))
 }
 
-// A step of a walk, which is printed, and where the walk then stands.
-pub fn step(rt: &impl Print, w: Walk, stood: usize) -> io::Result<usize> {
-    match w {
-        Walk::Child(x, next) => {
-            print!(rt; " {x}")?;
-            Ok(next)
-        }
-        Walk::Done => {
-            print!(rt; " none")?;
-            Ok(stood)
-        }
-        Walk::Refused(n, place) => {
-            print!(rt; " (refused {n}, place {place})")?;
-            Ok(stood)
-        }
+// A step of a walk.
+pub fn step(rt: &impl Print, a: Result<Option<Child>, Misfit>) -> io::Result<()> {
+    match a {
+        Ok(Some(child)) => print!(rt; " {}", child.row),
+        Ok(None) => print!(rt; " none"),
+        Err(e) => print!(rt; " ({e})"),
     }
 }

@@ -1,29 +1,22 @@
--- Tests 1 to 3, before the first record: what each tells, what all of them come to, and what an exam begins with.
+-- Tests 1 to 3, before the first record: what one of them refuses is the judgement.
 -- Assumes nothing.
 use Prim.Native.Nat.{ℕ}
-use native.Mathlib.Omega.{arith}
-use mathlib.Core.Path.{◌≡◌, refl, sym, ap, ◌∙◌}
+use mathlib.Core.Path.{◌≡◌, refl, ap, ◌∙◌}
 use mathlib.Core.Bool.{◌&&◌}
-use mathlib.Core.List.{List, []}
+use mathlib.Core.List.{List}
 use lib.Dec.{leb}
 use lib.ListN.{length}
-use borrow.Author.Tests.{leb-true}
 use Rattle.plan.specs.declared.Record.{Record}
 use Rattle.std.specs.Prelude.{None, Err}
-use Rattle.plan.specs.declared.Stand.{Stand}
 use Rattle.plan.specs.declared.Verdict.{Verdict}
 use Rattle.plan.specs.declared.Verdict.TheVariants.{Passed, Failed}
 use Rattle.plan.specs.Tree.{count}
 use Rattle.plan.specs.Table.{Table, even, sound, most_rows}
 use Rattle.plan.specs.Paint.{old, plan}
-use Rattle.plan.specs.Way.{start}
 use Rattle.plan.specs.Call.{then, test, tested, result, most_records, judged, published_of}
 use Rattle.plan.specs.declared.refusal.Refusal.{Refusal}
 use Rattle.plan.specs.Told.{failed, judgement_told}
-use Rattle.judge.specs.Underway.{Along}
 use Rattle.judge.proofs.Told.{failed-then, judged-failed}
-use Rattle.plan.proofs.Kit.{T_of}
-use Rattle.plan.proofs.Verdicts.{test_true, then-passed}
 use Rattle.judge.specs.Judgement.{first_tests}
 
 -- ---- tests 1 to 9
@@ -46,7 +39,6 @@ module _ (t i : Table) (l : List Record) where
       let tree = test (sound t) 2 0 0 in
       let records = test (leb (length l) most_records) 3 0 0 in
       ap (then columns) (then-then tree records later_tests) ∙ then-then columns (then tree records) later_tests
-
 
 -- what one of the first tests refuses is the judgement
 pub first-refused : (t i : Table) (l : List Record) {n : ℕ} (e : Refusal) → failed e ≡ first_tests t i n → n ≡ length l

@@ -1,9 +1,8 @@
--- An exam goes on by one record, and ends: the records that passed are themselves a list that passes, so the way along
--- them stands where the exam does, and behind the last it has counted the rows of the result.
+-- The exam of a list, record by record: how it goes on and ends. The records that passed are themselves a list that
+-- passes, so the way along them stands where the exam does, and behind the last it has counted the rows of the result.
 -- Assumes nothing.
-use Prim.Native.Nat.{ℕ, zero, suc, ◌+◌, ◌-◌, ◌≤◌, ◌<◌}
+use Prim.Native.Nat.{ℕ, suc, ◌+◌, ◌-◌, ◌≤◌, ◌<◌}
 use native.Mathlib.Omega.{arith}
-use native.Mathlib.Numerals.{add-one}
 use mathlib.Core.Path.{◌≡◌, refl, sym, ap, ◌∙◌, subst}
 use mathlib.Core.Bool.{◌&&◌}
 use mathlib.Core.List.{List, [], ◌∷◌, ◌++◌, append_assoc}
@@ -25,18 +24,32 @@ use Rattle.plan.proofs.Kit.{true_of, T_and}
 use Rattle.plan.proofs.Tests.{even_lengths}
 use Rattle.plan.proofs.FourKinds.{run-within}
 use Rattle.plan.proofs.Tested.{passes, tested-passes}
-use Rattle.judge_record.specs.Trial.{Even, RunTested, SoundRows, Faces, RightTrial}
+use Rattle.judge_record.specs.Trial.{Even, RunTested, Faces, RightTrial}
 use Rattle.judge_record.specs.Way.{Meets, behind, stands}
 use Rattle.judge_record.proofs.Places.{sizes_are}
-use Rattle.judge_record.proofs.Ways.{Passes, Way, meets, way_at, way_inside, way_few, all_rows}
+use Rattle.judge_record.proofs.Ways.{Passes, Way, meets, way_at, way_inside, all_rows}
 use Rattle.plan.specs.declared.Judgement.{Judgement}
 use Rattle.plan.specs.declared.Judgement.TheVariants.{Refused}
 use Rattle.plan.specs.declared.refusal.Fault.{Fault}
 use Rattle.plan.specs.declared.refusal.Fault.TheVariants.{Kind, Location, Run as BadRun, Order, Alone}
 use Rattle.plan.specs.Told.{fault}
 use Rattle.plan.specs.Call.{judgement, published_of}
-use Rattle.judge.specs.Underway.{Along}
 use Rattle.judge.proofs.Judging.{judged-first}
+
+-- the exam of the list l goes on: tests 1 to 3 passed, and so did the records up to here; the rows go on where these
+-- leave them, and what is left of the tests is what the records rs behind say
+pub record Along (t i : Table) (l : List Record) (before : Option Record) (s : Stand) (passed : ℕ) (rs : List Record)
+    : Type 0 where
+  pub columns-even : T (even t && even i)
+  pub table-sound : T (sound t)
+  pub few : length l ≤ most_records
+  pub done : List Record
+  pub whole : l ≡ done ++ rs
+  pub places : length done ≡ passed
+  pub tests : (qs : List Record)
+      → tested (plan old t) i 0 None (done ++ qs) ≡ tested (plan old t) i passed before qs
+  pub stood : s ≡ stands t.size i.size start done
+  pub run-tested : RunTested i before
 
 -- ---- what the tests of a record tell
 fault_some : (e : Fault) → 0 < fault e
@@ -96,6 +109,12 @@ module _ {t i : Table} {l : List Record} {b : Option Record} {s : Stand} {k : �
         tests_left,
       )
 
+  -- a record can be tested behind them
+  pub can_try : Even i × RunTested i b
+  can_try =
+      let m = even_lengths i (true_of (even i) both_even.1) in
+      (record { dists = m.0; values = m.1 }, h.run-tested)
+
   -- all records of the list are here or behind
   all_records : k + length rs ≡ length l
   all_records = omega (arith, h.places, ap length h.whole, length-append h.done rs)
@@ -111,23 +130,13 @@ module _ {t i : Table} {l : List Record} {b : Option Record} {s : Stand} {k : �
       }
 
 -- ---- the next record
-module _ {t i : Table} {l : List Record} {b : Option Record} {s : Stand} {k : ℕ} {r : Record} {rs : List Record}
-    (h : Along t i l b s k (r ∷ rs)) where
+module _ {t i : Table} {l : List Record} {b : Option Record} {s : Stand} {k : ℕ} {r : Record} {rs left : List Record}
+    (along : Along t i l b s k left) (next : left ≡ r ∷ rs) where
   abbrev f : Forest Painted
   f = plan old t
 
-  -- it can be asked for its place, and tested
-  pub sound-rows : SoundRows t.dist t.size
-  sound-rows = record { value = t.value; is-sound = h.table-sound }
-
-  pub can_try : Even i × RunTested i b
-  can_try =
-      let m = even_lengths i (true_of (even i) (both_even h).1) in
-      (record { dists = m.0; values = m.1 }, h.run-tested)
-
-  -- few records passed
-  pub few-passed : k < most_records
-  few-passed = omega (arith, h.few, all_records h)
+  abbrev h : Along t i l b s k (r ∷ rs)
+  h = subst (Along t i l b s k) next along
 
   module _ {p : Place} (faces : Faces t.dist t.size r p) where
     -- its place is that in this tree
@@ -234,12 +243,9 @@ module _ {t i : Table} {l : List Record} {b : Option Record} {s : Stand} {k : �
       all_rows t i (h.done ++ []) passing_all s (length h.done) way_all
       ∙ ap (λ (x : List Record). count (result t i x)) (sym all_done)
 
-  -- and few
-  pub few-rows : (s.row.0 ≤ length t.size) × (s.out.0 ≤ 134215680)
-  few-rows = (
-    way_inside t i (h.done ++ []) passing_all s (length h.done) [] way_all,
-    way_few t i (h.done ++ []) passing_all s (length h.done) [] way_all,
-  )
+  -- and the rows go on inside the table
+  pub row_inside : s.row.0 ≤ length t.size
+  row_inside = way_inside t i (h.done ++ []) passing_all s (length h.done) [] way_all
 
   -- test 9 of that many rows is the judgement
   pub published-rows : {o r : ℕ} {a : Judgement} → o ≡ s.out.0 → r ≡ s.row.0

@@ -7,8 +7,8 @@ ghost use Rattle.plan.specs.Told.{verdict_told, judgement_told};
 ghost use Rattle.judge.specs.Judgement.{first_tests};
 
 use judge_record::place::place_of;
-use judge_record::way::{onward, run_rows};
 use judge_record::tried;
+use judge_record::way::{onward, run_rows};
 use plan::lent::{Records, Table};
 use plan::refusal::Refusal;
 use plan::{Answer, Record, Stand, wide};

@@ -39,6 +39,6 @@ pub fn test_row(row: u32, n: u64) -> Result<(), Refusal>
 pub fn judged(t: Table, l: Changes, i: Table) -> Result<u64, Refusal>
     ensures { judgement_told result ≡ published (read t.entry) (read i.entry) (read_list l.entry) }
 {
-    let level = Level::of(l)?;
+    let level = Level::try_from(l)?;
     exam::judged(t, &level, i)
 }

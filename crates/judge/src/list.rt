@@ -1,7 +1,6 @@
 // A list that is lent as five columns.
-ghost use Rattle.std.specs.Prelude.{◌≡◌, MatchResult, true, false};
+ghost use Rattle.std.specs.Prelude.{◌≡◌, MatchResult, true, false, length};
 ghost use Rattle.plan.specs.Lent.{read_list, level, list};
-ghost use Rattle.judge.specs.Judgement.{Level as IsLevel};
 
 use plan::Record;
 use plan::lent::{Changes, Records};
@@ -11,16 +10,21 @@ use plan::refusal::Uneven;
 #[derive(Clone, Copy)]
 pub struct Level<'a> {
     columns: Changes<'a>,
-    ghost level: { IsLevel (read_list columns) },
+    ghost locations: { length columns.location.now ≡ length columns.kind.now },
+    ghost parents: { length columns.parent.now ≡ length columns.kind.now },
+    ghost froms: { length columns.from.now ≡ length columns.kind.now },
+    ghost values: { length columns.value.now ≡ length columns.kind.now },
 }
 
-impl<'a> Level<'a> {
-    // Test 1 of the list's own columns: they are equally long.
+// Test 1 of the list's own columns: they are equally long.
+impl<'a> TryFrom<Changes<'a>> for Level<'a> {
+    type Error = Uneven;
+
+    ghost try_from_gives = { λ l r.
+        MatchResult r (λ v. (v.columns ≡ l) × (level (read_list l) ≡ true)) (λ _. level (read_list l) ≡ false) };
+
     #[tactic(auto, unfolding(plan::specs::Lent::level))]
-    pub fn of(l: Changes<'a>) -> Result<Level<'a>, Uneven>
-        ensures { MatchResult result (λ v. (v.columns ≡ l.entry) × (level (read_list l.entry) ≡ true))
-            (λ _. level (read_list l.entry) ≡ false) }
-    {
+    fn try_from(l: Changes<'a>) -> Result<Level<'a>, Uneven> {
         let n = l.kind.len();
         if l.location.len() != n || l.parent.len() != n || l.from.len() != n || l.value.len() != n {
             return Err(Uneven);
@@ -32,10 +36,12 @@ impl<'a> Level<'a> {
 impl Records for Level<'_> {
     ghost list = { λ l. list (read_list l.columns) };
 
+    #[tactic(auto, using(crate::proofs::Listing::listed_length))]
     fn len(&self) -> usize {
         self.columns.kind.len()
     }
 
+    #[tactic(auto, using(crate::proofs::Listing::listed_length, crate::proofs::Listing::list_record))]
     fn record(&self, j: usize) -> Record {
         Record {
             kind: self.columns.kind[j],

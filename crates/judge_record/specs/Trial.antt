@@ -32,11 +32,6 @@ abbrev pub open_for : (dist size : List ℕ) → Record → Bool
 open_for dist size r =
     is_insert r && (ltb r.parent (length size) && quick_place dist size r.location r.parent)
 
--- with some values these are a sound table's columns
-pub record SoundRows (dist size : List ℕ) : Type 0 where
-  pub value : List ℕ
-  pub is-sound : T (sound (table dist size value))
-
 -- p is what the record asks of the tree, whatever values make the distances and sizes a sound table
 pub record Faces (dist size : List ℕ) (r : Record) (p : Place) : Type 0 where
   pub faces : (value : List ℕ) → let u = table dist size value in T (sound u) → p ≡ place_of (plan old u) r

@@ -15,11 +15,8 @@ pub fn test_order(before: Option<Record>, r: Record) -> Result<(), Fault>
     let Some(p) = before else {
         return Ok(());
     };
-    if p.location < r.location {
-        return Ok(());
-    }
     let fits = r.kind != Record::INSERT || p.kind == Record::INSERT && r.parent <= p.parent;
-    if p.location == r.location && fits {
+    if p.location < r.location || p.location == r.location && fits {
         Ok(())
     } else {
         Err(Fault::Order)

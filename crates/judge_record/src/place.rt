@@ -1,7 +1,9 @@
-// What a record asks of the table, read from its columns in constant time; and test 5, which asks just that.
+// What a record asks of the table, read from its columns in constant time; and test 5, which asks just that. It is the
+// same whatever the values are, so these take distances and sizes, and no whole table.
 ghost use Rattle.std.specs.Prelude.{◌≡◌, ◌<◌, length};
 ghost use Rattle.plan.specs.Way.{old_pre, goes_on_at};
-ghost use Rattle.judge_record.specs.Trial.{quick_place, open_for, SoundRows, Faces, RightPlace};
+ghost use Rattle.table.specs.Shape.{Shaped};
+ghost use Rattle.judge_record.specs.Trial.{quick_place, open_for, Faces, RightPlace};
 ghost use Rattle.judge_record.specs.Way.{EndsLow};
 
 use crate::way::row_behind;
@@ -38,9 +40,9 @@ fn end_of(size: &[u32], r: Record) -> OldPre
 }
 
 // What the record asks of the table.
-#[tactic(auto, using(crate::proofs::Places::rows_even, crate::proofs::Places::rows_few))]
+#[tactic(auto, using(table::proofs::Parents::shape_lengths, crate::proofs::Places::faces_it))]
 pub fn place_of(dist: &[u32], size: &[u32], r: Record) -> Place
-    requires { SoundRows dist.now size.now }
+    requires { Shaped dist.now size.now }
     ensures { Faces dist.now size.now r result }
 {
     Place {
@@ -51,7 +53,7 @@ pub fn place_of(dist: &[u32], size: &[u32], r: Record) -> Place
 }
 
 // Test 5: an insert's location is an open place of its parent; another's is a row, and row 0 can only be renamed.
-#[tactic(auto, using(crate::proofs::Places::located_is))]
+#[tactic(auto, unfolding(plan::specs::Records::located, plan::specs::Way::place_of))]
 pub fn test_location(place: Place, r: Record) -> Result<(), Fault>
     ensures { RightPlace place r result }
 {

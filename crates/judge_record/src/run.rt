@@ -18,6 +18,7 @@ pub fn has_run(r: Record) -> bool
 }
 
 // Is there a run at row f: does it start and end within the insertions, and is it sound by itself?
+#[tactic(auto, unfolding(plan::specs::Table::run))]
 fn run_at(i: Table, f: usize) -> bool
     requires { Even (read i) }
     ensures { result ≡ run_at (read i.entry) f }
@@ -44,7 +45,7 @@ fn is_tested(before: Option<Record>, r: Record) -> bool
 }
 
 // Test 6: an insert or a replace has a run.
-#[tactic(auto, using(crate::proofs::Runs::run_again), unfolding(plan::specs::Records::runs))]
+#[tactic(auto, unfolding(plan::specs::Records::runs))]
 pub fn test_run(i: Table, before: Option<Record>, r: Record) -> Result<(), Fault>
     requires { Even (read i) × RunTested (read i) before }
     ensures { result ≡ trial (runs (read i.entry) r) BadRun }

@@ -1,4 +1,5 @@
-// The way along a list: what one record does to the rows, where the last record left them.
+// The way along a list: what one record does to the rows, where the last record left them. Of the table and of the
+// insertions only sizes count here, so that column is all that is taken.
 ghost use Rattle.std.specs.Prelude.{◌≡◌, ◌<◌, T, length};
 ghost use Rattle.plan.specs.Way.{has_run, removes_rows, vain, brought, old_pre, goes_on_at, meeting};
 ghost use Rattle.judge_record.specs.Way.{EndsLow, Meets, behind};

@@ -22,7 +22,8 @@ impl NewPre {
     pub const GONE: u32 = 4294967295;
 }
 
-// One record of a list. What a kind doesn't use is not read.
+// One record of a list. What a kind doesn't use is not read. The kind is a number, and no enum: C lays the record out,
+// and any number may stand there.
 #[repr(C)]
 #[derive(Clone, Copy)]
 pub struct Record {

@@ -77,7 +77,7 @@ pub fn bulk(
         let w = table ndist.new nsize.new nvalue.new in
         Done (level l') (read t.entry) (read i.entry) (list l') u (answer_told result) w }
 {
-    let level = Level::of(l)?;
+    let level = Level::try_from(l)?;
     apply(t, &level, i, ndist, nsize, nvalue)
 }
 

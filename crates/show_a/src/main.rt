@@ -2,8 +2,6 @@
 #![tactic(auto)]
 
 use out::worked;
-use plan::Record;
-use plan::lent::{Changes, Table};
 use std::io;
 
 // As many rows of the new table as the call counted, each on a line of its own.
@@ -21,27 +19,17 @@ fn rows(
 }
 
 fn main(rt: HostRuntime) -> io::Result<()> {
-    let table = Table {
-        dist: &worked::DIST,
-        size: &worked::SIZE,
-        value: &worked::VALUE,
-    };
-    let changes = Changes {
-        kind: &[Record::INSERT, Record::DELETE, Record::INSERT],
-        location: &[2, 4, 6],
-        parent: &[1, 0, 0],
-        from: &[2, 0, 0],
-        value: &[0, 0, 0],
-    };
-    let insertions = Table {
-        dist: &worked::RUN_DIST,
-        size: &worked::RUN_SIZE,
-        value: &worked::RUN_VALUE,
-    };
     let mut dist = [0; 8];
     let mut size = [0; 8];
     let mut value = [0; 8];
-    match refresh::bulk(table, changes, insertions, &mut dist, &mut size, &mut value) {
+    match refresh::bulk(
+        worked::TABLE,
+        worked::A,
+        worked::INSERTIONS,
+        &mut dist,
+        &mut size,
+        &mut value,
+    ) {
         Ok(count) => rows(&rt, &dist, &size, &value, count),
         Err(refusal) => println!(rt; "{refusal}"),
     }

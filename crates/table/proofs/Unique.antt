@@ -1,14 +1,15 @@
 -- Each contract determines its answer: two answers that meet it are equal.
 -- Assumes nothing.
-use Rattle.std.proofs.Common.{◌≡◌, ℕ, ◌+◌, ◌≤◌, List, take, sym, refl, ap, ◌∙◌, arith, take-take, Option, Some, None}
-use Rattle.plan.specs.Axes.{Reply, Start as Begin, Walked}
+use Rattle.std.proofs.Common.{◌≡◌, ℕ, ◌+◌, ◌≤◌, List, take, sym, refl, ap, ◌∙◌, arith, take-take, Option, Some, None, Result, Ok, Err}
+use Rattle.plan.specs.Axes.{Reply, row, nothing, Start as Begin, Walked}
 use Rattle.plan.proofs.Kit.{by_place}
-use Rattle.plan.specs.declared.Found.{Found}
-use Rattle.plan.specs.declared.Found.TheVariants.{Row, Nothing, Refused}
-use Rattle.plan.specs.declared.Start.{Start}
-use Rattle.plan.specs.declared.Walk.{Walk}
-use Rattle.plan.specs.declared.Walk.TheVariants.{Child, Done, Refused as Stopped}
-use Rattle.plan.specs.Axes.{told, started, walked}
+use Rattle.plan.specs.declared.Span.{Span}
+use Rattle.plan.specs.declared.Child.{Child}
+use Rattle.plan.specs.declared.refusal.RowRefusal.{RowRefusal}
+use Rattle.plan.specs.declared.refusal.RowRefusal.TheVariants.{Uneven, NoSuchRow, Broken}
+use Rattle.plan.specs.declared.refusal.Misfit.{Misfit}
+use Rattle.plan.specs.Told.{refused_told, reply_told, row_told, start_told, step_told}
+use Rattle.table.proofs.Told.{differ, no-row}
 use Rattle.table.specs.Shape.{Shaped, Begun, Right}
 
 -- `soundness`, `is_sound` and `subtree`: an answer, a yes or no, and a list of values, each given by an equation
@@ -20,49 +21,79 @@ module _ {A B : Type 0} (read : A → B) (apart : (a b : A) → read a ≡ read 
   read_once : (x : B) (a b : A) → read a ≡ x → read b ≡ x → a ≡ b
   read_once x a b p q = apart a b (p ∙ sym q)
 
-differ : {P : Type 0} → ◌≡◌ {A = ℕ} 0 1 → P
-differ e = absurd (omega arith)
+refused_apart : (e f : RowRefusal) → refused_told e ≡ refused_told f → e ≡ f
+refused_apart Uneven Uneven h = refl
+refused_apart Uneven (NoSuchRow s) h = differ (cc)
+refused_apart Uneven (Broken s) h = differ (cc)
+refused_apart (NoSuchRow r) Uneven h = differ (cc)
+refused_apart (NoSuchRow r) (NoSuchRow s) h = let e : r ≡ s = cc in ap NoSuchRow e
+refused_apart (NoSuchRow r) (Broken s) h = differ (cc)
+refused_apart (Broken r) Uneven h = differ (cc)
+refused_apart (Broken r) (NoSuchRow s) h = differ (cc)
+refused_apart (Broken r) (Broken s) h = let e : r ≡ s = cc in ap Broken e
 
-told_apart : (f g : Found) → told f ≡ told g → f ≡ g
-told_apart (Row r) (Row s) h = let e : r ≡ s = cc in ap Row e
-told_apart (Row r) Nothing h = differ (cc)
-told_apart (Row r) (Refused m q) h = differ (cc)
-told_apart Nothing (Row s) h = differ (cc)
-told_apart Nothing Nothing h = refl
-told_apart Nothing (Refused m q) h = differ (cc)
-told_apart (Refused n p) (Row s) h = differ (cc)
-told_apart (Refused n p) Nothing h = differ (cc)
-told_apart (Refused n p) (Refused m q) h = let e : n ≡ m = cc in let i : p ≡ q = cc in cc
+some-row : {P : Type 0} (e : RowRefusal) → refused_told e ≡ nothing → P
+some-row Uneven h = differ (cc)
+some-row (NoSuchRow q) h = differ (cc)
+some-row (Broken q) h = differ (cc)
 
-walked_apart : (v w : Walk) → walked v ≡ walked w → v ≡ w
-walked_apart (Child r n) (Child s m) h = let e : r ≡ s = cc in let i : n ≡ m = cc in cc
-walked_apart (Child r n) Done h = differ (cc)
-walked_apart (Child r n) (Stopped m q) h = differ (cc)
-walked_apart Done (Child s m) h = differ (cc)
-walked_apart Done Done h = refl
-walked_apart Done (Stopped m q) h = differ (cc)
-walked_apart (Stopped n p) (Child s m) h = differ (cc)
-walked_apart (Stopped n p) Done h = differ (cc)
-walked_apart (Stopped n p) (Stopped m q) h = let e : n ≡ m = cc in let i : p ≡ q = cc in cc
+reply_apart : (a b : Result (Option ℕ) RowRefusal) → reply_told a ≡ reply_told b → a ≡ b
+reply_apart (Ok (Some r)) (Ok (Some s)) h = let e : r ≡ s = cc in ap (λ (x : ℕ). Ok (Some x)) e
+reply_apart (Ok (Some r)) (Ok None) h = differ (cc)
+reply_apart (Ok (Some r)) (Err f) h = no-row f r (sym h)
+reply_apart (Ok None) (Ok (Some s)) h = differ (cc)
+reply_apart (Ok None) (Ok None) h = refl
+reply_apart (Ok None) (Err f) h = some-row f (sym h)
+reply_apart (Err e) (Ok (Some s)) h = no-row e s h
+reply_apart (Err e) (Ok None) h = some-row e h
+reply_apart (Err e) (Err f) h = ap Err (refused_apart e f h)
 
-started_apart : (s u : Start) → started s ≡ started u → s ≡ u
-started_apart s u h =
-    let f = told_apart s.answer u.answer (ap (λ (b : Begin). b.answer) h) in
-    let n = ap (λ (b : Begin). b.next) h in
-    let e = ap (λ (b : Begin). b.end) h in
-    λ i. record { answer = f i; next = n i; end = e i }
+row_apart : (a b : Result ℕ RowRefusal) → row_told a ≡ row_told b → a ≡ b
+row_apart (Ok r) (Ok s) h = let e : r ≡ s = cc in ap Ok e
+row_apart (Ok r) (Err f) h = no-row f r (sym h)
+row_apart (Err e) (Ok s) h = no-row e s h
+row_apart (Err e) (Err f) h = ap Err (refused_apart e f h)
 
--- `parent`, `first_child`, `next_sibling` and `subtree_top`
-pub found_once : (x : Reply) (f g : Found) → told f ≡ x → told g ≡ x → f ≡ g
-found_once = read_once told told_apart
+start_apart : (a b : Result Span RowRefusal) → start_told a ≡ start_told b → a ≡ b
+start_apart (Ok a) (Ok b) h =
+    let t : row a.top ≡ row b.top = ap (λ (s : Begin). s.answer) h in
+    let e : a.top ≡ b.top = cc in
+    let n = ap (λ (s : Begin). s.next) h in
+    let z = ap (λ (s : Begin). s.end) h in
+    λ i. Ok (record { top = e i; next = n i; end = z i })
+start_apart (Ok a) (Err f) h = no-row f a.top (sym (ap (λ (s : Begin). s.answer) h))
+start_apart (Err e) (Ok b) h = no-row e b.top (ap (λ (s : Begin). s.answer) h)
+start_apart (Err e) (Err f) h = ap Err (refused_apart e f (ap (λ (s : Begin). s.answer) h))
+
+step_apart : (a b : Result (Option Child) Misfit) → step_told a ≡ step_told b → a ≡ b
+step_apart (Ok (Some a)) (Ok (Some b)) h =
+    let r : a.row ≡ b.row = cc in
+    let n : a.next ≡ b.next = cc in
+    λ i. Ok (Some (record { row = r i; next = n i }))
+step_apart (Ok (Some a)) (Ok None) h = differ (cc)
+step_apart (Ok (Some a)) (Err f) h = differ (cc)
+step_apart (Ok None) (Ok (Some b)) h = differ (cc)
+step_apart (Ok None) (Ok None) h = refl
+step_apart (Ok None) (Err f) h = differ (cc)
+step_apart (Err e) (Ok (Some b)) h = differ (cc)
+step_apart (Err e) (Ok None) h = differ (cc)
+step_apart (Err e) (Err f) h = let p : e.0 ≡ f.0 = cc in λ i. Err (record { 0 = p i })
+
+-- `parent`, `first_child` and `next_sibling`
+pub found_once : (x : Reply) (a b : Result (Option ℕ) RowRefusal) → reply_told a ≡ x → reply_told b ≡ x → a ≡ b
+found_once = read_once reply_told reply_apart
+
+-- `subtree_top`
+pub row_once : (x : Reply) (a b : Result ℕ RowRefusal) → row_told a ≡ x → row_told b ≡ x → a ≡ b
+row_once = read_once row_told row_apart
 
 -- `step`
-pub walk_once : (x : Walked) (v w : Walk) → walked v ≡ x → walked w ≡ x → v ≡ w
-walk_once = read_once walked walked_apart
+pub walk_once : (x : Walked) (a b : Result (Option Child) Misfit) → step_told a ≡ x → step_told b ≡ x → a ≡ b
+walk_once = read_once step_told step_apart
 
 -- `start_walk`
-pub start_once : (x : Begin) (s u : Start) → started s ≡ x → started u ≡ x → s ≡ u
-start_once = read_once started started_apart
+pub start_once : (x : Begin) (a b : Result Span RowRefusal) → start_told a ≡ x → start_told b ≡ x → a ≡ b
+start_once = read_once start_told start_apart
 
 -- ---- `first_bad`
 -- what begins a sound table, and begins earlier, begins it too

@@ -1,9 +1,9 @@
 -- One step of the climb, and the step to the next row.
 -- Assumes nothing.
-use Rattle.std.proofs.Common.{◌≡◌, ℕ, ◌+◌, ◌-◌, ◌<◌, Bool, true, false, leb, List, length, sym, refl, ap, subst, arith, leb-false, leb-true}
+use Rattle.std.proofs.Common.{◌≡◌, ℕ, ◌+◌, ◌<◌, List, length, sym, ap, subst, arith}
 use Rattle.plan.specs.Axes.{cell}
 use Rattle.plan.proofs.Kit.{by_place}
-use Rattle.table.specs.Rows.{Open, Inner, Fine, Row, Rows, Rooted, Ready, Says}
+use Rattle.table.specs.Rows.{Open, Inner, Fine, Row, Rows, Rooted, Ready}
 
 -- row x, which ends at r, has a parent q, which is open at r too
 pub record Up (s d : ℕ → ℕ) (r x : ℕ) : Type 0 where
@@ -78,12 +78,3 @@ root_open D S g =
 
 pub open_at : (s : ℕ → ℕ) (r x y : ℕ) → x ≡ y → Open s r x → Open s r y
 open_at s r x y e o = subst (λ (z : ℕ). Open s r z) e o
-
--- what the tests of row r tell, the last of them e ≤ f
-pub fitting : (s d : ℕ → ℕ) (r x e f : ℕ) → x < r → e ≡ r + s r → f ≡ x + s x → d r ≡ r - x → (s r ≡ 0 → ⊥)
-    → Says (leb e f) (Fine s d r x)
-fitting s d r x e f l he hf hd hs = go (leb e f) refl
-  where
-    go : (t : Bool) → leb e f ≡ t → Says t (Fine s d r x)
-    go true q = omega (arith, leb-true e f q)
-    go false q = λ w. omega (arith, leb-false e f q, w.inside)

@@ -1,115 +1,96 @@
 // The axes: what stands around one row. They read raw columns, and answer for unsound tables too.
 ghost use Rattle.std.specs.Prelude.{◌≡◌};
-ghost use Rattle.plan.specs.Table.{table};
+ghost use Rattle.plan.specs.Table.{read};
 ghost use Rattle.plan.specs.Axes.{parent as parent_of, first_child, next_sibling, subtree_top, subtree as values_of};
-ghost use Rattle.plan.specs.Axes.{told, asked_row};
+ghost use Rattle.plan.specs.Axes.{asked_row};
+ghost use Rattle.plan.specs.Told.{reply_told, row_told};
 
 use crate::test_even;
 use plan::lent::Table;
-use plan::{Found, wide};
+use plan::refusal::RowRefusal;
+use plan::wide;
 
 // Tests 1 and 11: the row asked about.
-fn asked(dist: &[u32], size: &[u32], value: &[u32], r: u32) -> Found
-    ensures { told result ≡ asked_row (table dist.now size.now value.now) r }
+fn asked(t: Table, r: u32) -> Result<usize, RowRefusal>
+    ensures { row_told result ≡ asked_row (read t.entry) r }
 {
-    let Ok(()) = test_even(Table { dist, size, value }) else {
-        return Found::Refused(1, 0);
-    };
+    test_even(t)?;
     let x = wide(r);
-    if x >= size.len() {
-        return Found::Refused(11, r);
+    if x >= t.size.len() {
+        return Err(RowRefusal::NoSuchRow(r));
     }
-    Found::Row(x)
+    Ok(x)
 }
 
 // The parent of row r: none for row 0.
-pub fn parent(dist: &[u32], size: &[u32], value: &[u32], r: u32) -> Found
-    ensures { told result ≡ parent_of (table dist.now size.now value.now) r }
+#[tactic(auto, using(crate::proofs::Told::asked_within))]
+pub fn parent(t: Table, r: u32) -> Result<Option<usize>, RowRefusal>
+    ensures { reply_told result ≡ parent_of (read t.entry) r }
 {
-    let f = asked(dist, size, value, r);
-    let Found::Row(x) = f else {
-        return f;
-    };
+    let x = asked(t, r)?;
     if x == 0 {
-        return Found::Nothing;
+        return Ok(None);
     }
-    let d = wide(dist[x]);
-    if d == 0 {
-        return Found::Refused(12, r);
+    let d = wide(t.dist[x]);
+    if d == 0 || d > x {
+        return Err(RowRefusal::Broken(r));
     }
-    if d > x {
-        return Found::Refused(12, r);
-    }
-    Found::Row(x - d)
+    Ok(Some(x - d))
 }
 
 // The row r itself, where its subtree lies in the table: the answer that goes with the part that `subtree` hands back.
-pub fn subtree_top(dist: &[u32], size: &[u32], value: &[u32], r: u32) -> Found
-    ensures { told result ≡ subtree_top (table dist.now size.now value.now) r }
+#[tactic(auto, using(crate::proofs::Told::asked_within))]
+pub fn subtree_top(t: Table, r: u32) -> Result<usize, RowRefusal>
+    ensures { row_told result ≡ subtree_top (read t.entry) r }
 {
-    let f = asked(dist, size, value, r);
-    let Found::Row(x) = f else {
-        return f;
-    };
-    let s = wide(size[x]);
-    if s == 0 {
-        return Found::Refused(12, r);
+    let x = asked(t, r)?;
+    let s = wide(t.size[x]);
+    if s == 0 || s > t.size.len() - x {
+        return Err(RowRefusal::Broken(r));
     }
-    if s > size.len() - x {
-        return Found::Refused(12, r);
-    }
-    f
+    Ok(x)
 }
 
 // The first child of row r.
-pub fn first_child(dist: &[u32], size: &[u32], value: &[u32], r: u32) -> Found
-    ensures { told result ≡ first_child (table dist.now size.now value.now) r }
+#[tactic(auto, using(crate::proofs::Told::top_within))]
+pub fn first_child(t: Table, r: u32) -> Result<Option<usize>, RowRefusal>
+    ensures { reply_told result ≡ first_child (read t.entry) r }
 {
-    let f = subtree_top(dist, size, value, r);
-    let Found::Row(x) = f else {
-        return f;
-    };
-    if wide(size[x]) < 2 {
-        return Found::Nothing;
+    let x = subtree_top(t, r)?;
+    if t.size[x] < 2 {
+        return Ok(None);
     }
-    Found::Row(x + 1)
+    Ok(Some(x + 1))
 }
 
 // The next sibling of row r: none for row 0, without reading further.
-pub fn next_sibling(dist: &[u32], size: &[u32], value: &[u32], r: u32) -> Found
-    ensures { told result ≡ next_sibling (table dist.now size.now value.now) r }
+pub fn next_sibling(t: Table, r: u32) -> Result<Option<usize>, RowRefusal>
+    ensures { reply_told result ≡ next_sibling (read t.entry) r }
 {
-    let f = parent(dist, size, value, r);
-    let Found::Row(q) = f else {
-        return f;
+    let Some(q) = parent(t, r)? else {
+        return Ok(None);
     };
     let x = wide(r);
-    let s = wide(size[x]);
-    if s == 0 {
-        return Found::Refused(12, r);
-    }
-    let e = q + wide(size[q]);
-    if e > size.len() {
-        return Found::Refused(12, r);
-    }
+    let s = wide(t.size[x]);
     let b = x + s;
-    if b > e {
-        return Found::Refused(12, r);
+    let e = q + wide(t.size[q]);
+    if s == 0 || e > t.size.len() || b > e {
+        return Err(RowRefusal::Broken(r));
     }
     if b == e {
-        return Found::Nothing;
+        return Ok(None);
     }
-    Found::Row(b)
+    Ok(Some(b))
 }
 
 // The values of the subtree of row r, as that part of the lent column itself; the empty part where refused.
-pub fn subtree<'a>(dist: &[u32], size: &[u32], value: &'a [u32], r: u32) -> &'a [u32]
-    ensures { result.now ≡ values_of (table dist.now size.now value.now) r }
+#[tactic(auto, using(crate::proofs::Told::top_within))]
+pub fn subtree<'a>(t: Table<'a>, r: u32) -> &'a [u32]
+    ensures { result.now ≡ values_of (read t.entry) r }
 {
-    let f = subtree_top(dist, size, value, r);
-    let Found::Row(x) = f else {
-        return &value[..0];
+    let Ok(x) = subtree_top(t, r) else {
+        return &t.value[..0];
     };
-    let e = x + wide(size[x]);
-    &value[x..e]
+    let e = x + wide(t.size[x]);
+    &t.value[x..e]
 }

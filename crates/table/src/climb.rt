@@ -1,4 +1,5 @@
-// The climb: the check of a table's shape row by row, which knows the first bad row.
+// The climb: the check of a table's shape row by row, which knows the first bad row. The values have no part in it, so
+// it takes the two columns that it reads.
 ghost use Rattle.std.specs.Prelude.{◌≡◌, ◌+◌, ◌<◌, length};
 ghost use Rattle.plan.specs.Axes.{cell};
 ghost use Rattle.table.specs.Rows.{Ready, Inner, Fine, Rooted, Says};
@@ -15,7 +16,8 @@ fn end(size: &[u32], x: usize) -> usize
     x + wide(size[x])
 }
 
-// The parent of row r, from a row that does not end before r: up, as long as the row ends at r.
+// The parent of row r, from a row that does not end before r: up, as long as the row ends at r. Each turn goes to the
+// parent, and no index is counted.
 fn up(dist: &[u32], size: &[u32], r: usize, start: usize) -> usize
     requires { Ready dist.now size.now r start }
     ensures { Inner (cell size.now) r result }

@@ -1,50 +1,43 @@
 // The walk over a row's children: where it starts, and its step, over a size column, a candidate and an end.
 ghost use Rattle.std.specs.Prelude.{◌≡◌};
-ghost use Rattle.plan.specs.Table.{table};
+ghost use Rattle.plan.specs.Table.{read};
 ghost use Rattle.plan.specs.Axes.{walk_start, step as step_at};
-ghost use Rattle.plan.specs.Axes.{started, walked};
+ghost use Rattle.plan.specs.Told.{start_told, step_told};
 
 use crate::axes::subtree_top;
-use plan::{Found, Start, Walk, wide};
+use plan::lent::Table;
+use plan::refusal::{Misfit, RowRefusal};
+use plan::{Child, Span, wide};
 
 // The walk over the children of row r, at its start.
-pub fn start_walk(dist: &[u32], size: &[u32], value: &[u32], r: u32) -> Start
-    ensures { started result ≡ walk_start (table dist.now size.now value.now) r }
+#[tactic(auto, using(crate::proofs::Told::top_within))]
+pub fn start_walk(t: Table, r: u32) -> Result<Span, RowRefusal>
+    ensures { start_told result ≡ walk_start (read t.entry) r }
 {
-    let f = subtree_top(dist, size, value, r);
-    let Found::Row(x) = f else {
-        return Start {
-            answer: f,
-            next: 0,
-            end: 0,
-        };
-    };
-    Start {
-        answer: f,
-        next: x + 1,
-        end: x + wide(size[x]),
-    }
+    let top = subtree_top(t, r)?;
+    Ok(Span {
+        top,
+        next: top + 1,
+        end: top + wide(t.size[top]),
+    })
 }
 
 // The step at a candidate: it gives the candidate and moves to the row after its subtree, or stays.
-pub fn step(size: &[u32], next: usize, end: usize) -> Walk
-    ensures { walked result ≡ step_at size.now next end }
+pub fn step(size: &[u32], next: usize, end: usize) -> Result<Option<Child>, Misfit>
+    ensures { step_told result ≡ step_at size.now next end }
 {
     if next == end {
-        return Walk::Done;
+        return Ok(None);
     }
-    if next >= size.len() {
-        return Walk::Refused(12, next);
+    if next >= size.len() || next > end {
+        return Err(Misfit(next));
     }
     let s = wide(size[next]);
-    if s == 0 {
-        return Walk::Refused(12, next);
+    if s == 0 || s > end - next {
+        return Err(Misfit(next));
     }
-    if next > end {
-        return Walk::Refused(12, next);
-    }
-    if s > end - next {
-        return Walk::Refused(12, next);
-    }
-    Walk::Child(next, next + s)
+    Ok(Some(Child {
+        row: next,
+        next: next + s,
+    }))
 }

@@ -1,41 +1,19 @@
 -- The walker: where its step leaves it, and that stepping it is the walk over a row's children.
 -- Assumes nothing.
 use Prim.Native.Nat.{ℕ, zero, suc, ◌+◌, ◌<◌}
-use native.Mathlib.Omega.{arith}
-use mathlib.Core.Path.{◌≡◌, refl, sym, ap, ◌∙◌}
-use mathlib.Core.Logic.{⊎_elim}
+use mathlib.Core.Path.{◌≡◌, refl, ap, ◌∙◌}
 use mathlib.Core.List.{List, [], ◌∷◌, ◌++◌, map}
 use lib.ListN.{length, replicate}
-use denote.Enum.Declared.{tag_of}
-use denote.Ref.{Bor}
-use types.Run.{OneOf}
 use Rattle.plan.specs.declared.Verdict.TheVariants.{Failed}
-use Rattle.plan.specs.Table.{Table, table}
-use Rattle.plan.specs.Axes.{row, refuse, whole, walk_start, Walked, child, ended, stopped, moved, steps, children_in}
+use Rattle.plan.specs.declared.lent.Table.{Table as Columns}
+use Rattle.plan.specs.Table.{Table, read}
+use Rattle.plan.specs.Axes.{row, refuse, whole, walk_start, Walked, ended, stopped, moved, steps, children_in}
 use Rattle.plan.proofs.Sound.{TreeOf}
 use Rattle.plan.proofs.Axes.{tree_of, given_by, walk_sound, walk_refused, walk_stays}
-use Rattle.plan.specs.declared.Walk.{Walk}
-use Rattle.plan.specs.declared.Walk.TheVariants.{Child, Done, Refused}
 use Rattle.walker.specs.declared.walker.Walker.{Walker}
 use Rattle.walker.specs.declared.walker.Started.{Started}
-use Rattle.plan.specs.Axes.{told, walked}
+use Rattle.plan.specs.Told.{row_told}
 use Rattle.walker.specs.Walkers.{Starts, step_of, after}
-use Rattle.plan.specs.contracts.Walk.{the_type}
-
--- ---- where a step leaves the walk
--- no child: it stays
-pub stays_told : (a : Walk) (x : Walked) (c : ℕ) → OneOf (1 ∷ 2 ∷ []) (tag_of the_type a) → walked a ≡ x
-    → c ≡ moved x c
-stays_told (Child r next) x c o h = ⊎_elim (λ e. absurd (omega arith)) (λ e. absurd (omega arith)) o
-stays_told Done x c o h = ap (λ (w : Walked). moved w c) h
-stays_told (Refused number place) x c o h = ap (λ (w : Walked). moved w c) h
-
--- a child: it goes past its subtree
-pub moves_told : (a : Walk) (x : Walked) (c r next : ℕ) → walked a ≡ x → a ≡ Child r next
-    → (child r next ≡ x) × (next ≡ moved x c)
-moves_told a x c r next h e =
-    let is : child r next ≡ x = sym (ap walked e) ∙ h in
-    (is, ap (λ (w : Walked). moved w c) is)
 
 -- ---- what k steps of a walker answer
 unfoldable pub stepping : ℕ → Walker → List Walked
@@ -49,28 +27,30 @@ stepping_is zero w = refl
 stepping_is (suc k) w = ap (λ (l : List Walked). step_of w ∷ l) (stepping_is k (after w))
 
 -- ---- a walk that has started at row r
-module _ (D L : List ℕ) (size : Bor (List ℕ)) (r : ℕ) (b : Started)
-    (starts : Starts b D size L r) where
+module _ (c : Columns) (r : ℕ) (b : Started) (starts : Starts b c r) where
   abbrev t : Table
-  t = table D size.now L
+  t = read c
+
+  abbrev size : List ℕ
+  size = c.size.now
 
   steps_of : (k : ℕ) →
       let s = walk_start t r in
-      stepping k b.walker ≡ steps k size.now s.next s.end
+      stepping k b.walker ≡ steps k size s.next s.end
   steps_of k = ap (stepping k) starts.1 ∙ stepping_is k _
 
   -- on a sound table: exactly the children, in order, and then none
-  pub walker_sound : (h : TreeOf t) → r < length size.now → (j : ℕ) →
+  pub walker_sound : (h : TreeOf t) → r < length size → (j : ℕ) →
       let children = children_in (tree_of h) r in
-      (told b.answer ≡ row r)
-      × (stepping (length children + j) b.walker ≡ map (given_by size.now) children ++ replicate j ended)
+      (row_told b.answer ≡ row r)
+      × (stepping (length children + j) b.walker ≡ map (given_by size) children ++ replicate j ended)
   walker_sound h l j =
       let w = walk_sound t h r l j in
       (starts.0 ∙ w.0, steps_of _ ∙ w.1)
 
   -- refused at its start: each step gives none
   pub walker_refused : (number place count j : ℕ) → whole t r ≡ Failed number place count
-      → (told b.answer ≡ refuse number place) × (stepping j b.walker ≡ replicate j ended)
+      → (row_told b.answer ≡ refuse number place) × (stepping j b.walker ≡ replicate j ended)
   walker_refused number place count j f =
       let w = walk_refused t r number place count j f in
       (starts.0 ∙ w.0, steps_of j ∙ w.1)

@@ -1,8 +1,9 @@
 // A walker over a row's children: it holds the lent size column, the next candidate and the end.
-ghost use Rattle.plan.specs.Axes.{step as step_at};
-ghost use Rattle.walker.specs.Walkers.{Starts, MovesBy, Steps};
+ghost use Rattle.walker.specs.Walkers.{Starts, Steps};
 
-use plan::{Found, Walk};
+use plan::Child;
+use plan::lent::Table;
+use plan::refusal::{Misfit, RowRefusal};
 use table::walk::{start_walk, step};
 
 // A walk on one table: the size column that it was lent, the next candidate and the end.
@@ -13,56 +14,48 @@ pub struct Walker<'a> {
     pub end: usize,
 }
 
-// A walk that has started: what its tests answer, and the walker. A refused one stands at its end.
+// A walk that has started: what its tests answer, and the walker. A struct of the two and no Result: the walker of a
+// refused start is one too, and stands at its end.
 #[derive(Clone, Copy)]
 pub struct Started<'a> {
-    pub answer: Found,
+    pub answer: Result<usize, RowRefusal>,
     pub walker: Walker<'a>,
-}
-
-// What a step answers, and where the walk then stands.
-#[derive(Clone, Copy)]
-struct Moved {
-    answer: Walk,
-    next: usize,
-}
-
-// The step at a candidate, with where the walk then stands.
-fn stepped(size: &[u32], next: usize, end: usize) -> Moved
-    ensures { MovesBy result (step_at size.now next end) next }
-{
-    let answer = step(size, next, end);
-    let Walk::Child(_, after) = answer else {
-        return Moved { answer, next };
-    };
-    Moved {
-        answer,
-        next: after,
-    }
 }
 
 impl<'a> Walker<'a> {
     // The walk over the children of row r, at its start.
-    pub fn new(dist: &[u32], size: &'a [u32], value: &[u32], r: u32) -> Started<'a>
-        ensures { Starts result dist.now size.entry value.now r }
+    pub fn new(t: Table<'a>, r: u32) -> Started<'a>
+        ensures { Starts result t.entry r }
     {
-        let start = start_walk(dist, size, value, r);
-        Started {
-            answer: start.answer,
-            walker: Walker {
-                size,
-                next: start.next,
-                end: start.end,
+        let size = t.size;
+        match start_walk(t, r) {
+            Ok(span) => Started {
+                answer: Ok(span.top),
+                walker: Walker {
+                    size,
+                    next: span.next,
+                    end: span.end,
+                },
+            },
+            Err(e) => Started {
+                answer: Err(e),
+                walker: Walker {
+                    size,
+                    next: 0,
+                    end: 0,
+                },
             },
         }
     }
 
     // The next child, none, or the refusal of a candidate; the walker moves past a child and otherwise stays.
-    pub fn step(&mut self) -> Walk
+    pub fn step(&mut self) -> Result<Option<Child>, Misfit>
         ensures { Steps result self.old self.new }
     {
-        let s = stepped(self.size, self.next, self.end);
-        self.next = s.next;
-        s.answer
+        let Some(child) = step(self.size, self.next, self.end)? else {
+            return Ok(None);
+        };
+        self.next = child.next;
+        Ok(Some(child))
     }
 }

@@ -1,7 +1,7 @@
 -- Before each record the exam goes on, with the records from there on left.
 use Rattle.std.proofs.Common.{drop}
 use Rattle.plan.specs.Table.{read}
-use Rattle.judge.specs.Underway.{Along}
+use Rattle.judge.proofs.Onward.{Along}
 use Rattle.judge.proofs.exam.judged.Given as goal
 
 abbrev pub invariant-loop-j : goal.invariant-loop-j

@@ -1,72 +1,50 @@
--- `table::axes::next_sibling` meets its contract. Of the places on the way, `sized` knows the row's size, and `ended`
--- its parent's.
-use Rattle.std.proofs.Common.{refl, arith}
-use Rattle.table.proofs.Told.{ParentIn, parent-told, sibling_handed}
+-- `table::axes::next_sibling` meets its contract.
+use Rattle.std.proofs.Common.{arith}
+use Rattle.plan.specs.Told.{reply_told}
+use Rattle.table.proofs.Told.{handed_on, parent-told, sibling_handed, sibling_none}
 use Rattle.table.proofs.Replies.{sibling_empty, sibling_too_long, sibling_too_far, sibling_is_none, sibling_is}
 use Rattle.table.proofs.axes.next_sibling.Goals as goal
+use Rattle.table.proofs.axes.next_sibling.Goals.{then-s-eq0-via-then-s-eq0, then-s-eq0-via-else-s-eq0+then-e-t, then-s-eq0-via-else-s-eq0+else-e-t+then-b-e}
+
+pub returns-in_err-q : goal.returns-in_err-q
+returns-in_err-q c = handed_on reply_told _ c.from_residual.ensures.1 (sibling_handed _ _ _ c.in_err-q.ensures)
 
 pub returns-in_default : goal.returns-in_default
-returns-in_default c = sibling_handed _ _ _ c.parent-f.result _ c.in_default.not-Row c.parent-f.ensures
+returns-in_default c = sibling_none _ _ _ c.in_ok-q.ensures c.in_default.is
 
-pub bounds-size-x : goal.bounds-size-x
-bounds-size-x c =
-    let found : let a = c.args in ParentIn a.dist.now a.size.now a.value.now a.r c.in-Row.q =
-    parent-told _ _ _ _ _ _ c.parent-f.ensures c.in-Row.is in
-    let w = found in omega (arith, w.row_in.within)
+pub bounds-t-x : goal.bounds-t-x
+bounds-t-x c = omega (arith, (parent-told _ _ _ _ c.in_ok-q.ensures c.in-Some.is).row_in.within)
+
+pub offset_bounds-t-q : goal.offset_bounds-t-q
+offset_bounds-t-q c =
+    let found = parent-told _ _ _ _ c.in_ok-q.ensures c.in-Some.is in
+    omega (arith, found.row_in.within, found.before)
+
+pub bounds-t-q : goal.bounds-t-q
+bounds-t-q c =
+    let found = parent-told _ _ _ _ c.in_ok-q.ensures c.in-Some.is in
+    omega (arith, found.row_in.within, found.before)
 
 pub returns-then-s-eq0 : goal.returns-then-s-eq0
 returns-then-s-eq0 c =
-    let found : let a = c.args in ParentIn a.dist.now a.size.now a.value.now a.r c.in-Row.q =
-    parent-told _ _ _ _ _ _ c.parent-f.ensures c.in-Row.is in
-    sibling_empty _ _ _ _ _ _ _ _ found c.wide-x.ensures.0 c.wide-s.ensures.0 refl
-    c.if-s-eq0.true
-
-pub offset_bounds-size-q : goal.offset_bounds-size-q
-offset_bounds-size-q c =
-    let found : let a = c.args in ParentIn a.dist.now a.size.now a.value.now a.r c.in-Row.q =
-    parent-told _ _ _ _ _ _ c.parent-f.ensures c.in-Row.is in
-    let w = found in
-    omega (arith, w.row_in.within, w.before)
-
-pub bounds-size-q : goal.bounds-size-q
-bounds-size-q c =
-    let found : let a = c.args in ParentIn a.dist.now a.size.now a.value.now a.r c.in-Row.q =
-    parent-told _ _ _ _ _ _ c.parent-f.ensures c.in-Row.is in
-    let w = found in
-    omega (arith, w.row_in.within, w.before)
-
-pub overflow_add-e : goal.overflow_add-e
-overflow_add-e c =
-    let found : let a = c.args in ParentIn a.dist.now a.size.now a.value.now a.r c.in-Row.q =
-    parent-told _ _ _ _ _ _ c.parent-f.ensures c.in-Row.is in
-    let w = found in
-    omega (arith, w.before, c.wide-x.ensures, c.wide.ensures)
-
-pub returns-then-e-size : goal.returns-then-e-size
-returns-then-e-size c =
-    let found : let a = c.args in ParentIn a.dist.now a.size.now a.value.now a.r c.in-Row.q =
-    parent-told _ _ _ _ _ _ c.parent-f.ensures c.in-Row.is in
-    sibling_too_long _ _ _ _ _ _ _ _ found c.wide-x.ensures.0 c.wide-s.ensures.0
-    c.wide.ensures.0 c.if-s-eq0.false c.if-e-size.true
-
-pub returns-then-b-e : goal.returns-then-b-e
-returns-then-b-e c =
-    let found : let a = c.args in ParentIn a.dist.now a.size.now a.value.now a.r c.in-Row.q =
-    parent-told _ _ _ _ _ _ c.parent-f.ensures c.in-Row.is in
-    sibling_too_far _ _ _ _ _ _ _ _ found c.wide-x.ensures.0 c.wide-s.ensures.0
-    c.wide.ensures.0 c.if-s-eq0.false c.if-e-size.false c.if-b-e.true
+    let found = parent-told _ _ _ _ c.in_ok-q.ensures c.in-Some.is in
+    let x = c.wide-x.ensures.0 in
+    let s = c.wide-s.ensures.0 in
+    let z = c.wide.ensures.0 in
+    elim c.then-s-eq0.branch [
+      | then-s-eq0-via-then-s-eq0 w ↦ sibling_empty _ _ _ _ _ _ found x s z w.if-s-eq0.true
+      | then-s-eq0-via-else-s-eq0+then-e-t w ↦
+          sibling_too_long _ _ _ _ _ _ found x s z w.if-s-eq0.false w.if-e-t.true
+      | then-s-eq0-via-else-s-eq0+else-e-t+then-b-e w ↦
+          sibling_too_far _ _ _ _ _ _ found x s z w.if-s-eq0.false w.if-e-t.false w.if-b-e.true
+    ]
 
 pub returns-then-b-e-2 : goal.returns-then-b-e-2
 returns-then-b-e-2 c =
-    let found : let a = c.args in ParentIn a.dist.now a.size.now a.value.now a.r c.in-Row.q =
-    parent-told _ _ _ _ _ _ c.parent-f.ensures c.in-Row.is in
-    sibling_is_none _ _ _ _ _ _ _ _ found c.wide-x.ensures.0 c.wide-s.ensures.0
-    c.wide.ensures.0 c.if-s-eq0.false c.if-e-size.false c.if-b-e-2.true
+    sibling_is_none _ _ _ _ _ _ (parent-told _ _ _ _ c.in_ok-q.ensures c.in-Some.is) c.wide-x.ensures.0
+    c.wide-s.ensures.0 c.wide.ensures.0 c.if-s-eq0.false c.if-e-t.false c.if-b-e-2.true
 
 pub returns : goal.returns
 returns c =
-    let found : let a = c.args in ParentIn a.dist.now a.size.now a.value.now a.r c.in-Row.q =
-    parent-told _ _ _ _ _ _ c.parent-f.ensures c.in-Row.is in
-    sibling_is _ _ _ _ _ _ _ _ found c.wide-x.ensures.0 c.wide-s.ensures.0
-    c.wide.ensures.0 c.if-s-eq0.false c.if-e-size.false c.if-b-e.false
-    c.if-b-e-2.false
+    sibling_is _ _ _ _ _ _ (parent-told _ _ _ _ c.in_ok-q.ensures c.in-Some.is) c.wide-x.ensures.0
+    c.wide-s.ensures.0 c.wide.ensures.0 c.if-s-eq0.false c.if-e-t.false c.if-b-e.false c.if-b-e-2.false

@@ -1,46 +1,28 @@
 -- `table::axes::parent` meets its contract.
 use Rattle.std.proofs.Common.{refl, arith}
-use Rattle.table.proofs.Told.{RowIn, asked-told, parent_handed}
+use Rattle.plan.specs.Told.{reply_told}
+use Rattle.table.proofs.Told.{handed_on, asked-told, parent_handed}
 use Rattle.table.proofs.Replies.{parent-is-none, parent_too_near, parent_too_far, parent_is}
 use Rattle.table.proofs.axes.parent.Goals as goal
+use Rattle.table.proofs.axes.parent.Goals.{then-d-eq0-via-then-d-eq0, then-d-eq0-via-else-d-eq0+then-d-x}
 
-pub returns-in_default : goal.returns-in_default
-returns-in_default c = parent_handed _ _ _ c.asked-f.result _ c.in_default.not-Row c.asked-f.ensures
+pub returns-in_err-x : goal.returns-in_err-x
+returns-in_err-x c = handed_on reply_told _ c.from_residual.ensures.1 (parent_handed _ _ _ c.in_err-x.ensures)
 
 pub returns-then-x-eq0 : goal.returns-then-x-eq0
-returns-then-x-eq0 c =
-    let found : let a = c.args in RowIn a.dist.now a.size.now a.value.now a.r c.in-Row.x =
-    asked-told _ _ _ _ _ _ c.asked-f.ensures c.in-Row.is in
-    parent-is-none _ _ _ _ _ _ found refl c.if-x-eq0.true
-
-pub offset_bounds-dist-x : goal.offset_bounds-dist-x
-offset_bounds-dist-x c =
-    let found : let a = c.args in RowIn a.dist.now a.size.now a.value.now a.r c.in-Row.x =
-    asked-told _ _ _ _ _ _ c.asked-f.ensures c.in-Row.is in
-    let w = found in omega (arith, w.within)
-
-pub bounds-dist-x : goal.bounds-dist-x
-bounds-dist-x c =
-    let found : let a = c.args in RowIn a.dist.now a.size.now a.value.now a.r c.in-Row.x =
-    asked-told _ _ _ _ _ _ c.asked-f.ensures c.in-Row.is in
-    let w = found in omega (arith, w.within, w.dist-length)
+returns-then-x-eq0 c = parent-is-none _ _ _ _ (asked-told _ _ _ c.in_ok-x.ensures) refl c.if-x-eq0.true
 
 pub returns-then-d-eq0 : goal.returns-then-d-eq0
 returns-then-d-eq0 c =
-    let found : let a = c.args in RowIn a.dist.now a.size.now a.value.now a.r c.in-Row.x =
-    asked-told _ _ _ _ _ _ c.asked-f.ensures c.in-Row.is in
-    parent_too_near _ _ _ _ _ _ found c.wide-d.ensures.0 (omega arith) c.if-d-eq0.true
-
-pub returns-then-d-x : goal.returns-then-d-x
-returns-then-d-x c =
-    let found : let a = c.args in RowIn a.dist.now a.size.now a.value.now a.r c.in-Row.x =
-    asked-told _ _ _ _ _ _ c.asked-f.ensures c.in-Row.is in
-    parent_too_far _ _ _ _ _ _ found c.wide-d.ensures.0 (omega arith)
-    c.if-d-x.true
+    let found = asked-told _ _ _ c.in_ok-x.ensures in
+    elim c.then-d-eq0.branch [
+      | then-d-eq0-via-then-d-eq0 w ↦
+          parent_too_near _ _ _ _ found c.wide-d.ensures.0 (omega arith) w.if-d-eq0.true
+      | then-d-eq0-via-else-d-eq0+then-d-x w ↦
+          parent_too_far _ _ _ _ found c.wide-d.ensures.0 (omega arith) w.if-d-x.true
+    ]
 
 pub returns : goal.returns
 returns c =
-    let found : let a = c.args in RowIn a.dist.now a.size.now a.value.now a.r c.in-Row.x =
-    asked-told _ _ _ _ _ _ c.asked-f.ensures c.in-Row.is in
-    parent_is _ _ _ _ _ _ found c.wide-d.ensures.0 (omega arith)
+    parent_is _ _ _ _ (asked-told _ _ _ c.in_ok-x.ensures) c.wide-d.ensures.0 (omega arith)
     c.if-d-eq0.false c.if-d-x.false

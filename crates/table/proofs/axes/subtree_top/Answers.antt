@@ -1,44 +1,21 @@
 -- `table::axes::subtree_top` meets its contract.
-use Rattle.std.proofs.Common.{arith}
-use Rattle.table.proofs.Told.{RowIn, asked-told, top_handed}
+use Rattle.plan.specs.Told.{row_told}
+use Rattle.table.proofs.Told.{handed_on, asked-told, top_handed}
 use Rattle.table.proofs.Replies.{top_small, top-past, top-is}
 use Rattle.table.proofs.axes.subtree_top.Goals as goal
+use Rattle.table.proofs.axes.subtree_top.Goals.{then-s-eq0-via-then-s-eq0, then-s-eq0-via-else-s-eq0+then-s-t}
 
-pub returns-in_default : goal.returns-in_default
-returns-in_default c = top_handed _ _ _ c.asked-f.result _ c.in_default.not-Row c.asked-f.ensures
-
-pub offset_bounds-size-x : goal.offset_bounds-size-x
-offset_bounds-size-x c =
-    let found : let a = c.args in RowIn a.dist.now a.size.now a.value.now a.r c.in-Row.x =
-    asked-told _ _ _ _ _ _ c.asked-f.ensures c.in-Row.is in
-    let w = found in omega (arith, w.within)
-
-pub bounds-size-x : goal.bounds-size-x
-bounds-size-x c =
-    let found : let a = c.args in RowIn a.dist.now a.size.now a.value.now a.r c.in-Row.x =
-    asked-told _ _ _ _ _ _ c.asked-f.ensures c.in-Row.is in
-    let w = found in omega (arith, w.within)
+pub returns-in_err-x : goal.returns-in_err-x
+returns-in_err-x c = handed_on row_told _ c.from_residual.ensures.1 (top_handed _ _ _ c.in_err-x.ensures)
 
 pub returns-then-s-eq0 : goal.returns-then-s-eq0
 returns-then-s-eq0 c =
-    let found : let a = c.args in RowIn a.dist.now a.size.now a.value.now a.r c.in-Row.x =
-    asked-told _ _ _ _ _ _ c.asked-f.ensures c.in-Row.is in
-    top_small _ _ _ _ _ _ found c.wide-s.ensures.0 c.if-s-eq0.true
-
-pub overflow_sub-size : goal.overflow_sub-size
-overflow_sub-size c =
-    let found : let a = c.args in RowIn a.dist.now a.size.now a.value.now a.r c.in-Row.x =
-    asked-told _ _ _ _ _ _ c.asked-f.ensures c.in-Row.is in
-    let w = found in omega (arith, w.within)
-
-pub returns-then-s-size : goal.returns-then-s-size
-returns-then-s-size c =
-    let found : let a = c.args in RowIn a.dist.now a.size.now a.value.now a.r c.in-Row.x =
-    asked-told _ _ _ _ _ _ c.asked-f.ensures c.in-Row.is in
-    top-past _ _ _ _ _ _ found c.wide-s.ensures.0 c.if-s-size.true
+    let found = asked-told _ _ _ c.in_ok-x.ensures in
+    elim c.then-s-eq0.branch [
+      | then-s-eq0-via-then-s-eq0 w ↦ top_small _ _ _ _ found c.wide-s.ensures.0 w.if-s-eq0.true
+      | then-s-eq0-via-else-s-eq0+then-s-t w ↦ top-past _ _ _ _ found c.wide-s.ensures.0 w.if-s-t.true
+    ]
 
 pub returns : goal.returns
 returns c =
-    let found : let a = c.args in RowIn a.dist.now a.size.now a.value.now a.r c.in-Row.x =
-    asked-told _ _ _ _ _ _ c.asked-f.ensures c.in-Row.is in
-    top-is _ _ _ _ _ _ found c.wide-s.ensures.0 c.if-s-eq0.false c.if-s-size.false
+    top-is _ _ _ _ (asked-told _ _ _ c.in_ok-x.ensures) c.wide-s.ensures.0 c.if-s-eq0.false c.if-s-t.false

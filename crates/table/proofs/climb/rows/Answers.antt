@@ -1,28 +1,15 @@
 -- `table::climb::rows` meets its contract: the rows passed have parents, and x is where to start the climb.
 use Rattle.std.proofs.Common.{ℕ, length, subst, arith, rules}
 use Rattle.plan.specs.Axes.{cell}
-use Rattle.table.specs.Rows.{Fine, Rows}
+use Rattle.table.specs.Rows.{Rows}
 use Rattle.table.proofs.Prefix.{no_way, begun-rows, rows_shape}
 use Rattle.table.proofs.Says.{says_true, says_false}
-use Rattle.table.proofs.Upward.{root-rows, root_open, next-rows, next_open}
+use Rattle.table.proofs.Upward.{next-rows, next_open}
 use Rattle.table.proofs.climb.rows.Goals as goal
-
-pub loop-r-init : goal.loop-r-init
-loop-r-init c = (search rules, root_open _ _ c.requires, root-rows _ _ c.requires)
-
-pub up-x-requires : goal.up-x-requires
-up-x-requires c =
-    record {
-      same = c.requires.same;
-      more = search rules;
-      rows = c.loop-r.invariant.2;
-      here = c.loop-r.invariant.1;
-    }
 
 pub loop-r-preserved : goal.loop-r-preserved
 loop-r-preserved c =
-    let right : let a = c.args in Fine (cell a.size.now) (cell a.dist.now) c.loop-r.r c.up-x.result =
-    says_true _ _ c.if-not-fits.false c.fits.ensures in
+    let right = says_true _ _ c.if-not-fits.false c.fits.ensures in
     let i = c.loop-r.invariant in
     (search rules, next_open _ _ _ _ right, next-rows _ _ _ _ _ c.up-x.ensures right i.2)
 

@@ -11,7 +11,7 @@ use judge_record::tried;
 use judge_record::way::{onward, run_rows};
 use plan::lent::{Records, Table};
 use plan::refusal::Refusal;
-use plan::{Answer, Record, Stand, wide};
+use plan::{Answer, Record, Stand};
 use table::sound::test_sound;
 use table::test_even;
 
@@ -63,5 +63,5 @@ pub fn judged<L: Records>(t: Table, l: &L, i: Table) -> Result<u64, Refusal>
         stand = onward(stand, r, place.end, run_rows(i.size, r));
         before = Some(r);
     }
-    test_rows(wide(stand.out.0) + (t.size.len() - wide(stand.row.0)))
+    test_rows(stand.out.0 as usize + (t.size.len() - stand.row.0 as usize))
 }

@@ -8,14 +8,14 @@ ghost use Rattle.judge_record.specs.Way.{EndsLow};
 
 use crate::way::row_behind;
 use plan::refusal::Fault;
-use plan::{OldPre, Place, Record, wide};
+use plan::{OldPre, Place, Record};
 
 // Is p an open place of row q, on a sound table: does q end there, or is row p a child of q?
 fn open_place(dist: &[u32], size: &[u32], p: usize, q: usize) -> bool
     requires { (length dist.now ≡ length size.now) × (q < length size.now) }
     ensures { result ≡ quick_place dist.now size.now p q }
 {
-    p == q + wide(size[q]) || p < size.len() && q + wide(dist[p]) == p
+    p == q + size[q] as usize || p < size.len() && q + dist[p] as usize == p
 }
 
 // Is it an insert whose location is an open place of its parent?
@@ -23,8 +23,8 @@ fn is_open(dist: &[u32], size: &[u32], r: Record) -> bool
     requires { length dist.now ≡ length size.now }
     ensures { result ≡ open_for dist.now size.now r }
 {
-    let q = wide(r.parent);
-    r.kind == Record::INSERT && q < size.len() && open_place(dist, size, wide(r.location), q)
+    let q = r.parent as usize;
+    r.kind == Record::INSERT && q < size.len() && open_place(dist, size, r.location as usize, q)
 }
 
 // The old row at which the rows go on behind the record; where its location is no row, that is the location.
@@ -32,7 +32,7 @@ fn end_of(size: &[u32], r: Record) -> OldPre
     requires { r.location < length size.now → EndsLow size.now r }
     ensures { result ≡ old_pre (goes_on_at size.now r) }
 {
-    if wide(r.location) < size.len() {
+    if r.location as usize < size.len() {
         row_behind(size, r)
     } else {
         OldPre(r.location)

@@ -7,7 +7,7 @@ ghost use Rattle.judge_record.specs.Trial.{trial, run_at, same_run, Even, RunTes
 
 use plan::lent::Table;
 use plan::refusal::Fault;
-use plan::{Record, wide};
+use plan::Record;
 use table::sound::is_sound;
 
 // Does it bring a run?
@@ -26,7 +26,7 @@ fn run_at(i: Table, f: usize) -> bool
     if f >= i.size.len() {
         return false;
     }
-    let e = f + wide(i.size[f]);
+    let e = f + i.size[f] as usize;
     if e > i.size.len() {
         return false;
     }
@@ -50,7 +50,7 @@ pub fn test_run(i: Table, before: Option<Record>, r: Record) -> Result<(), Fault
     requires { Even (read i) × RunTested (read i) before }
     ensures { result ≡ trial (runs (read i.entry) r) BadRun }
 {
-    if !has_run(r) || is_tested(before, r) || run_at(i, wide(r.from)) {
+    if !has_run(r) || is_tested(before, r) || run_at(i, r.from as usize) {
         Ok(())
     } else {
         Err(Fault::Run)

@@ -5,7 +5,7 @@ ghost use Rattle.plan.specs.Way.{has_run, removes_rows, vain, brought, old_pre, 
 ghost use Rattle.judge_record.specs.Way.{EndsLow, Meets, behind};
 
 use crate::run::has_run;
-use plan::{Meeting, NewPre, OldPre, Record, Stand, wide};
+use plan::{Meeting, NewPre, OldPre, Record, Stand};
 
 // Does it take rows away?
 pub fn removes_rows(r: Record) -> bool
@@ -31,7 +31,7 @@ pub fn run_rows(isize: &[u32], r: Record) -> u32
     requires { T (has_run r) → r.from < length isize.now }
     ensures { result ≡ brought isize.now r }
 {
-    if has_run(r) { isize[wide(r.from)] } else { 0 }
+    if has_run(r) { isize[r.from as usize] } else { 0 }
 }
 
 // The old row at which the rows go on behind it.
@@ -40,7 +40,7 @@ pub fn row_behind(size: &[u32], r: Record) -> OldPre
     ensures { result ≡ old_pre (goes_on_at size.now r) }
 {
     let p = r.location;
-    let rows = if removes_rows(r) { size[wide(p)] } else { 0 };
+    let rows = if removes_rows(r) { size[p as usize] } else { 0 };
     OldPre(p + rows)
 }
 

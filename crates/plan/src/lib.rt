@@ -2,7 +2,7 @@
 // in the table and does to the rows, what tests say, the answer of a call.
 #![tactic(auto)]
 
-ghost use Rattle.std.specs.Prelude.{◌≡◌, ◌<◌};
+ghost use Rattle.std.specs.Prelude.{◌≡◌};
 ghost use Rattle.plan.specs.Answer.{accepted, refused};
 ghost use Rattle.plan.specs.Way.{start};
 
@@ -10,16 +10,16 @@ pub mod lent;
 pub mod refusal;
 
 // A row number of the table as it was. Nothing but a mapping turns it into a row number of the new table.
-#[derive(Clone, Copy)]
+#[derive(Clone, Copy, PartialEq, Eq, PartialOrd, Ord)]
 pub struct OldPre(pub u32);
 
 // A row number of the table as it is after a list.
-#[derive(Clone, Copy)]
+#[derive(Clone, Copy, PartialEq, Eq, PartialOrd, Ord)]
 pub struct NewPre(pub u32);
 
 impl NewPre {
     // stands in a column of new row numbers where the old row is gone: no row has it
-    pub const GONE: u32 = 4294967295;
+    pub const GONE: u32 = u32::MAX;
 }
 
 // One record of a list. What a kind doesn't use is not read. The kind is a number, and no enum: C lays the record out,
@@ -46,7 +46,7 @@ impl Record {
     // how many records a list may have
     pub const MOST: usize = 1024;
     // stands in a column of record numbers where the new row was an old one: no record has it
-    pub const NONE: u32 = 4294967295;
+    pub const NONE: u32 = u32::MAX;
 }
 
 // What the tests and the count of a record ask of the table: how many rows it has, at which old row the rows go on
@@ -133,7 +133,7 @@ impl Answer {
         Answer {
             number: 0,
             place: 0,
-            count: count,
+            count,
         }
     }
 
@@ -142,9 +142,9 @@ impl Answer {
         ensures { result ≡ refused number place count }
     {
         Answer {
-            number: number,
-            place: place,
-            count: count,
+            number,
+            place,
+            count,
         }
     }
 }
@@ -211,11 +211,4 @@ pub struct PlanWas {
     pub inserted: u32,
     pub record: u32,
     pub row: u32,
-}
-
-// A number of a column, wide enough that no sum of rows and sizes wraps.
-pub fn wide(x: u32) -> usize
-    ensures { (result ≡ x) × (result < 4294967296) }
-{
-    x as usize
 }

@@ -8,14 +8,13 @@ ghost use Rattle.plan.specs.Told.{reply_told, row_told};
 use crate::test_even;
 use plan::lent::Table;
 use plan::refusal::RowRefusal;
-use plan::wide;
 
 // Tests 1 and 11: the row asked about.
 fn asked(t: Table, r: u32) -> Result<usize, RowRefusal>
     ensures { row_told result ≡ asked_row (read t.entry) r }
 {
     test_even(t)?;
-    let x = wide(r);
+    let x = r as usize;
     if x >= t.size.len() {
         return Err(RowRefusal::NoSuchRow(r));
     }
@@ -31,7 +30,7 @@ pub fn parent(t: Table, r: u32) -> Result<Option<usize>, RowRefusal>
     if x == 0 {
         return Ok(None);
     }
-    let d = wide(t.dist[x]);
+    let d = t.dist[x] as usize;
     if d == 0 || d > x {
         return Err(RowRefusal::Broken(r));
     }
@@ -44,7 +43,7 @@ pub fn subtree_top(t: Table, r: u32) -> Result<usize, RowRefusal>
     ensures { row_told result ≡ subtree_top (read t.entry) r }
 {
     let x = asked(t, r)?;
-    let s = wide(t.size[x]);
+    let s = t.size[x] as usize;
     if s == 0 || s > t.size.len() - x {
         return Err(RowRefusal::Broken(r));
     }
@@ -70,10 +69,10 @@ pub fn next_sibling(t: Table, r: u32) -> Result<Option<usize>, RowRefusal>
     let Some(q) = parent(t, r)? else {
         return Ok(None);
     };
-    let x = wide(r);
-    let s = wide(t.size[x]);
+    let x = r as usize;
+    let s = t.size[x] as usize;
     let b = x + s;
-    let e = q + wide(t.size[q]);
+    let e = q + t.size[q] as usize;
     if s == 0 || e > t.size.len() || b > e {
         return Err(RowRefusal::Broken(r));
     }
@@ -93,6 +92,6 @@ pub fn subtree<'a>(dist: &[u32], size: &[u32], value: &'a [u32], r: u32) -> &'a 
     let Ok(x) = subtree_top(t, r) else {
         return &value[..0];
     };
-    let e = x + wide(size[x]);
+    let e = x + size[x] as usize;
     &value[x..e]
 }

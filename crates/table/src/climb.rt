@@ -6,14 +6,13 @@ ghost use Rattle.table.specs.Rows.{Ready, Inner, Fine, Rooted, Says};
 ghost use Rattle.table.specs.Shape.{Right};
 
 use crate::rooted;
-use plan::wide;
 
 // The row after the last of those in row x.
 fn end(size: &[u32], x: usize) -> usize
     requires { x < length size.now }
     ensures { result ≡ x + cell size.now x }
 {
-    x + wide(size[x])
+    x + size[x] as usize
 }
 
 // The parent of row r, from a row that does not end before r: up, as long as the row ends at r. Each turn goes to the
@@ -24,7 +23,7 @@ fn up(dist: &[u32], size: &[u32], r: usize, start: usize) -> usize
 {
     let mut x = start;
     while end(size, x) == r {
-        x = x - wide(dist[x]);
+        x = x - dist[x] as usize;
     }
     x
 }
@@ -34,7 +33,7 @@ fn fits(dist: &[u32], size: &[u32], r: usize, x: usize) -> bool
     requires { (length dist.now ≡ length size.now) × (r < length size.now) × (x < r) }
     ensures { Says result (Fine (cell size.now) (cell dist.now) r x) }
 {
-    wide(dist[r]) == r - x && size[r] != 0 && end(size, r) <= end(size, x)
+    dist[r] as usize == r - x && size[r] != 0 && end(size, r) <= end(size, x)
 }
 
 // The check of every row but the root's.

@@ -10,7 +10,7 @@ ghost use Rattle.table.specs.Rows.{Rooted, Says};
 
 use plan::lent::Table;
 use plan::refusal::Uneven;
-use plan::{Answer, wide};
+use plan::Answer;
 
 pub mod axes;
 pub mod climb;
@@ -33,5 +33,5 @@ fn rooted(dist: &[u32], size: &[u32]) -> bool
     ensures { Says result (Rooted dist.now size.now) }
 {
     let n = size.len();
-    dist.len() == n && n != 0 && n <= Answer::MOST_ROWS && dist[0] == 1 && wide(size[0]) == n
+    dist.len() == n && n != 0 && n <= Answer::MOST_ROWS && dist[0] == 1 && size[0] as usize == n
 }

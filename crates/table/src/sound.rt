@@ -10,7 +10,6 @@ ghost use Rattle.table.specs.Shape.{Shaped};
 use crate::{rooted, test_even};
 use plan::lent::Table;
 use plan::refusal::Refusal;
-use plan::wide;
 
 // The sum test: each row fits into one before it, and distance times size add up to 1 + .. + n.
 // A sum d + s that wraps is let through: its product alone is more than that.
@@ -30,7 +29,7 @@ fn sums(dist: &[u32], size: &[u32]) -> bool
         if d.wrapping_add(s) > size[q as usize] {
             return false;
         }
-        let p = wide(d) * wide(s);
+        let p = d as usize * s as usize;
         if p == 0 {
             return false;
         }

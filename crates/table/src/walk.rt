@@ -7,7 +7,7 @@ ghost use Rattle.plan.specs.Told.{start_told, step_told};
 use crate::axes::subtree_top;
 use plan::lent::Table;
 use plan::refusal::{Misfit, RowRefusal};
-use plan::{Child, Span, wide};
+use plan::{Child, Span};
 
 // The walk over the children of row r, at its start.
 #[tactic(auto, using(crate::proofs::Told::top_within))]
@@ -18,7 +18,7 @@ pub fn start_walk(t: Table, r: u32) -> Result<Span, RowRefusal>
     Ok(Span {
         top,
         next: top + 1,
-        end: top + wide(t.size[top]),
+        end: top + t.size[top] as usize,
     })
 }
 
@@ -32,7 +32,7 @@ pub fn step(size: &[u32], next: usize, end: usize) -> Result<Option<Child>, Misf
     if next >= size.len() || next > end {
         return Err(Misfit(next));
     }
-    let s = wide(size[next]);
+    let s = size[next] as usize;
     if s == 0 || s > end - next {
         return Err(Misfit(next));
     }

@@ -1,6 +1,5 @@
 -- `table::axes::asked` meets its contract.
-use Rattle.std.proofs.Common.{refl, ap, ◌∙◌, arith}
-use Rattle.plan.specs.Axes.{row}
+use Rattle.std.proofs.Common.{refl, arith}
 use Rattle.plan.specs.Told.{row_told}
 use Rattle.plan.proofs.Verdicts.{passed-told, failed_told}
 use Rattle.plan.proofs.Tests.{reply-passed, reply_failed, asked-uneven, asked-past, asked_of}
@@ -20,4 +19,4 @@ returns-then-x-t c =
 pub returns : goal.returns
 returns c =
     let even = passed-told _ 1 0 0 c.in_ok-test_even.ensures refl in
-    ap row c.wide-x.ensures.0 ∙ reply-passed _ _ (asked_of _ _ even (omega arith))
+    reply-passed _ _ (asked_of _ _ even (omega arith))

@@ -1,5 +1,5 @@
 -- `table::axes::next_sibling` meets its contract.
-use Rattle.std.proofs.Common.{arith}
+use Rattle.std.proofs.Common.{refl, arith}
 use Rattle.plan.specs.Told.{reply_told}
 use Rattle.table.proofs.Told.{handed_on, parent-told, sibling_handed, sibling_none}
 use Rattle.table.proofs.Replies.{sibling_empty, sibling_too_long, sibling_too_far, sibling_is_none, sibling_is}
@@ -28,23 +28,20 @@ bounds-t-q c =
 pub returns-then-s-eq0 : goal.returns-then-s-eq0
 returns-then-s-eq0 c =
     let found = parent-told _ _ _ _ c.in_ok-q.ensures c.in-Some.is in
-    let x = c.wide-x.ensures.0 in
-    let s = c.wide-s.ensures.0 in
-    let z = c.wide.ensures.0 in
     elim c.then-s-eq0.branch [
-      | then-s-eq0-via-then-s-eq0 w ↦ sibling_empty _ _ _ _ _ _ found x s z w.if-s-eq0.true
+      | then-s-eq0-via-then-s-eq0 w ↦ sibling_empty _ _ _ _ _ _ found refl refl refl w.if-s-eq0.true
       | then-s-eq0-via-else-s-eq0+then-e-t w ↦
-          sibling_too_long _ _ _ _ _ _ found x s z w.if-s-eq0.false w.if-e-t.true
+          sibling_too_long _ _ _ _ _ _ found refl refl refl w.if-s-eq0.false w.if-e-t.true
       | then-s-eq0-via-else-s-eq0+else-e-t+then-b-e w ↦
-          sibling_too_far _ _ _ _ _ _ found x s z w.if-s-eq0.false w.if-e-t.false w.if-b-e.true
+          sibling_too_far _ _ _ _ _ _ found refl refl refl w.if-s-eq0.false w.if-e-t.false w.if-b-e.true
     ]
 
 pub returns-then-b-e-2 : goal.returns-then-b-e-2
 returns-then-b-e-2 c =
-    sibling_is_none _ _ _ _ _ _ (parent-told _ _ _ _ c.in_ok-q.ensures c.in-Some.is) c.wide-x.ensures.0
-    c.wide-s.ensures.0 c.wide.ensures.0 c.if-s-eq0.false c.if-e-t.false c.if-b-e-2.true
+    sibling_is_none _ _ _ _ _ _ (parent-told _ _ _ _ c.in_ok-q.ensures c.in-Some.is)
+    refl refl refl c.if-s-eq0.false c.if-e-t.false c.if-b-e-2.true
 
 pub returns : goal.returns
 returns c =
-    sibling_is _ _ _ _ _ _ (parent-told _ _ _ _ c.in_ok-q.ensures c.in-Some.is) c.wide-x.ensures.0
-    c.wide-s.ensures.0 c.wide.ensures.0 c.if-s-eq0.false c.if-e-t.false c.if-b-e.false c.if-b-e-2.false
+    sibling_is _ _ _ _ _ _ (parent-told _ _ _ _ c.in_ok-q.ensures c.in-Some.is)
+    refl refl refl c.if-s-eq0.false c.if-e-t.false c.if-b-e.false c.if-b-e-2.false

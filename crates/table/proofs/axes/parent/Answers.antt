@@ -17,12 +17,12 @@ returns-then-d-eq0 c =
     let found = asked-told _ _ _ c.in_ok-x.ensures in
     elim c.then-d-eq0.branch [
       | then-d-eq0-via-then-d-eq0 w ↦
-          parent_too_near _ _ _ _ found c.wide-d.ensures.0 (omega arith) w.if-d-eq0.true
+          parent_too_near _ _ _ _ found refl (omega arith) w.if-d-eq0.true
       | then-d-eq0-via-else-d-eq0+then-d-x w ↦
-          parent_too_far _ _ _ _ found c.wide-d.ensures.0 (omega arith) w.if-d-x.true
+          parent_too_far _ _ _ _ found refl (omega arith) w.if-d-x.true
     ]
 
 pub returns : goal.returns
 returns c =
-    parent_is _ _ _ _ (asked-told _ _ _ c.in_ok-x.ensures) c.wide-d.ensures.0 (omega arith)
+    parent_is _ _ _ _ (asked-told _ _ _ c.in_ok-x.ensures) refl (omega arith)
     c.if-d-eq0.false c.if-d-x.false

@@ -19,12 +19,11 @@ returns-then-next-size c =
 pub returns-then-s-eq0 : goal.returns-then-s-eq0
 returns-then-s-eq0 c =
     elim c.then-s-eq0.branch [
-      | then-s-eq0-via-then-s-eq0 w ↦ step_empty _ _ _ _ c.wide-s.ensures.0 c.if-next-end.false w.if-s-eq0.true
+      | then-s-eq0-via-then-s-eq0 w ↦ step_empty _ _ _ _ refl c.if-next-end.false w.if-s-eq0.true
       | then-s-eq0-via-else-s-eq0+then-s-end w ↦
-          step_too_far _ _ _ _ c.wide-s.ensures.0 c.if-next-end.false w.if-s-eq0.false (omega arith)
+          step_too_far _ _ _ _ refl c.if-next-end.false w.if-s-eq0.false (omega arith)
     ]
 
 pub returns : goal.returns
 returns c =
-    step_is _ _ _ _ c.wide-s.ensures.0 c.if-next-end.false
-    c.if-s-eq0.false (omega arith)
+    step_is _ _ _ _ refl c.if-next-end.false c.if-s-eq0.false (omega arith)

@@ -8,9 +8,9 @@ ghost use Rattle.plan.specs.Call.{test};
 ghost use Rattle.plan.specs.Told.{even_told};
 ghost use Rattle.table.specs.Rows.{Rooted, Says};
 
+use plan::Answer;
 use plan::lent::Table;
 use plan::refusal::Uneven;
-use plan::Answer;
 
 pub mod axes;
 pub mod climb;

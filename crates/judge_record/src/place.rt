@@ -32,7 +32,7 @@ fn end_of(size: &[u32], r: Record) -> OldPre
     requires { r.location < length size.now → EndsLow size.now r }
     ensures { result ≡ old_pre (goes_on_at size.now r) }
 {
-    if r.location as usize < size.len() {
+    if (r.location as usize) < size.len() {
         row_behind(size, r)
     } else {
         OldPre(r.location)

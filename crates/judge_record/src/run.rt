@@ -5,9 +5,9 @@ ghost use Rattle.plan.specs.Table.{read};
 ghost use Rattle.plan.specs.Records.{is_insert, is_replace, runs};
 ghost use Rattle.judge_record.specs.Trial.{trial, run_at, same_run, Even, RunTested};
 
+use plan::Record;
 use plan::lent::Table;
 use plan::refusal::Fault;
-use plan::Record;
 use table::sound::is_sound;
 
 // Does it bring a run?

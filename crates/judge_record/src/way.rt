@@ -31,7 +31,11 @@ pub fn run_rows(isize: &[u32], r: Record) -> u32
     requires { T (has_run r) → r.from < length isize.now }
     ensures { result ≡ brought isize.now r }
 {
-    if has_run(r) { isize[r.from as usize] } else { 0 }
+    if has_run(r) {
+        isize[r.from as usize]
+    } else {
+        0
+    }
 }
 
 // The old row at which the rows go on behind it.
@@ -54,24 +58,30 @@ pub fn meet(s: Stand, r: Record, end: OldPre, run: u32) -> Meeting
     }
     if r.kind == Record::RENAME {
         return Meeting::Renamed(Stand {
-            first: OldPre(0),
-            end: OldPre(0),
-            ..s
+            row: s.row,
+            out: s.out,
+            ..Stand::start()
         });
     }
-    let p = r.location;
-    let (first, last) = if removes_rows(r) {
-        (OldPre(p), end)
-    } else {
-        (OldPre(0), OldPre(0))
-    };
-    let next = Stand {
+    let first = OldPre(r.location);
+    let behind = Stand {
         row: end,
-        out: NewPre(s.out.0 + (p - s.row.0) + run),
-        first,
-        end: last,
+        out: NewPre(s.out.0 + (first.0 - s.row.0) + run),
+        ..Stand::start()
     };
-    Meeting::Here(OldPre(p), run, next)
+    if removes_rows(r) {
+        Meeting::Here(
+            first,
+            run,
+            Stand {
+                first,
+                end,
+                ..behind
+            },
+        )
+    } else {
+        Meeting::Here(first, run, behind)
+    }
 }
 
 // Where the rows go on behind the record.

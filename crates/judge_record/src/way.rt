@@ -31,11 +31,7 @@ pub fn run_rows(isize: &[u32], r: Record) -> u32
     requires { T (has_run r) → r.from < length isize.now }
     ensures { result ≡ brought isize.now r }
 {
-    if has_run(r) {
-        isize[r.from as usize]
-    } else {
-        0
-    }
+    if has_run(r) { isize[r.from as usize] } else { 0 }
 }
 
 // The old row at which the rows go on behind it.
@@ -64,24 +60,16 @@ pub fn meet(s: Stand, r: Record, end: OldPre, run: u32) -> Meeting
         });
     }
     let first = OldPre(r.location);
-    let behind = Stand {
+    let mut next = Stand {
         row: end,
         out: NewPre(s.out.0 + (first.0 - s.row.0) + run),
         ..Stand::start()
     };
     if removes_rows(r) {
-        Meeting::Here(
-            first,
-            run,
-            Stand {
-                first,
-                end,
-                ..behind
-            },
-        )
-    } else {
-        Meeting::Here(first, run, behind)
+        next.first = first;
+        next.end = end;
     }
+    Meeting::Here(first, run, next)
 }
 
 // Where the rows go on behind the record.

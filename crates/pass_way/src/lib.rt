@@ -16,14 +16,14 @@ use plan::{NewPre, OldPre};
 pub fn elsewhere(c: Cursor, p: OldPre, q: OldPre) -> bool
     ensures { Elsewhere result c p.0 q.0 }
 {
-    c.stand.row.0 != p.0 || c.parent.0 != q.0
+    c.stand.row != p || c.parent != q
 }
 
 // The nearer of two rows.
 fn nearer(a: OldPre, b: OldPre) -> OldPre
     ensures { Nearer a.0 b.0 result.0 }
 {
-    OldPre(a.0.min(b.0))
+    a.min(b)
 }
 
 // One step: the open row is closed, or all rows left under it are copied, or those up to row p, the last of which is
@@ -35,11 +35,11 @@ fn step(c: Cursor, p: OldPre, q: OldPre, t: Table, new: &mut NewTable) -> Cursor
     ensures same { SameColumns new.old new.new }
 {
     let e = end(t.size, c.parent);
-    if c.stand.row.0 == e.0 {
+    if c.stand.row == e {
         return close(c, t.dist, new);
     }
     let k = stretch(c, nearer(e, p), t, new);
-    if e.0 < p.0 {
+    if e < p {
         return k;
     }
     Cursor {

@@ -3,18 +3,19 @@
 -- Assumes nothing.
 use Prim.Native.Nat.{◌<◌}
 use native.Mathlib.Omega.{arith}
-use mathlib.Core.Path.{refl, ◌∙◌}
+use mathlib.Core.Path.{refl}
+use Rattle.std.proofs.lemmas.Bool.Decides.{nat_tests}
 use Rattle.pass_moves.specs.Written.{out}
 use Rattle.pass_way.proofs.Steps.{parent-ends, can_close, went_close, can_stretch_on, went_all, some-rows-on, went-part}
 use Rattle.pass_way.proofs.step.Goals as goal
-use Rattle.pass_way.proofs.step.Goals.{Else-e-p}
+use Rattle.pass_way.proofs.step.Goals.{Else-lt}
 
 -- behind the rows that are copied there is one before row p, and one before the next new row
-some_rows : (c : Else-e-p) → (0 < c.args.p.0) × (0 < out c.stretch-k.result)
+some_rows : (c : Else-lt) → (0 < c.args.p.0) × (0 < out c.stretch-k.result)
 some_rows c =
     let k = c.stretch-k.ensures in
-    some-rows-on c.requires.1 c.end-e.ensures c.if-c-e.false c.nearer.ensures k.fact
-    k.result_value c.if-e-p.false c.requires.0
+    some-rows-on c.requires.1 c.end-e.ensures (grind (arith, nat_tests)) c.nearer.ensures k.fact
+    k.result_value (grind (arith, nat_tests)) c.requires.0
 
 pub end-e-requires : goal.end-e-requires
 end-e-requires c =
@@ -22,33 +23,33 @@ end-e-requires c =
 
 pub close-requires : goal.close-requires
 close-requires c =
-    can_close c.requires.0.ready c.requires.1 (c.if-c-e.true ∙ c.end-e.ensures)
+    can_close c.requires.0.ready c.requires.1 (grind (arith, nat_tests))
 
-pub returns-then-c-e-clause-went : goal.returns-then-c-e-clause-went
-returns-then-c-e-clause-went c =
-    went_close c.requires.1 (c.if-c-e.true ∙ c.end-e.ensures) c.close.ensures.sized c.close.ensures.result_value
+pub returns-then-eq-clause-went : goal.returns-then-eq-clause-went
+returns-then-eq-clause-went c =
+    went_close c.requires.1 (grind (arith, nat_tests)) c.close.ensures.sized c.close.ensures.result_value
     c.requires.0
 
 pub stretch-k-requires : goal.stretch-k-requires
 stretch-k-requires c =
-    can_stretch_on c.requires.1 c.end-e.ensures c.if-c-e.false c.nearer.ensures c.requires.0
+    can_stretch_on c.requires.1 c.end-e.ensures (grind (arith, nat_tests)) c.nearer.ensures c.requires.0
 
-pub returns-then-e-p-clause-went : goal.returns-then-e-p-clause-went
-returns-then-e-p-clause-went c =
+pub returns-then-lt-clause-went : goal.returns-then-lt-clause-went
+returns-then-lt-clause-went c =
     let k = c.stretch-k.ensures in
-    went_all c.requires.1 c.end-e.ensures c.if-c-e.false c.nearer.ensures k.fact k.result_value
-    c.if-e-p.true c.requires.0
+    went_all c.requires.1 c.end-e.ensures (grind (arith, nat_tests)) c.nearer.ensures k.fact k.result_value
+    (grind (arith, nat_tests)) c.requires.0
 
 pub overflow_sub-result-2 : goal.overflow_sub-result-2
 overflow_sub-result-2 c =
-    omega (arith, (some_rows (goal.at.overflow_sub-result-2 c).Else-e-p).1)
+    omega (arith, (some_rows (goal.at.overflow_sub-result-2 c).Else-lt).1)
 
 pub overflow_sub-result : goal.overflow_sub-result
 overflow_sub-result c =
-    omega (arith, (some_rows (goal.at.overflow_sub-result c).Else-e-p).0)
+    omega (arith, (some_rows (goal.at.overflow_sub-result c).Else-lt).0)
 
 pub returns-clause-went : goal.returns-clause-went
 returns-clause-went c =
     let k = c.stretch-k.ensures in
-    went-part c.requires.1 c.end-e.ensures c.if-c-e.false c.nearer.ensures k.fact k.result_value
-    c.if-e-p.false refl c.requires.0
+    went-part c.requires.1 c.end-e.ensures (grind (arith, nat_tests)) c.nearer.ensures k.fact k.result_value
+    (grind (arith, nat_tests)) refl c.requires.0

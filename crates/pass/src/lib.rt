@@ -85,7 +85,7 @@ fn tail_step(c: Cursor, t: Table, new: &mut NewTable) -> Cursor
     ensures same { SameColumns new.old new.new }
 {
     let e = end(t.size, c.parent);
-    if c.stand.row.0 == e.0 {
+    if c.stand.row == e {
         return close(c, t.dist, new);
     }
     stretch(c, e, t, new)

@@ -1,6 +1,7 @@
 -- `pass::tail_step` meets its contract: the open row is closed, or the rows left under it are copied.
 -- Assumes nothing.
-use mathlib.Core.Path.{◌∙◌}
+use native.Mathlib.Omega.{arith}
+use Rattle.std.proofs.lemmas.Bool.Decides.{nat_tests}
 use Rattle.pass.proofs.AtOnce.{parent-ends, can_copy, copied, copied-kept, copied_less, can_close_it, closed, closed-kept, closed_less}
 use Rattle.pass.proofs.tail_step.Goals as goal
 
@@ -10,23 +11,20 @@ end-e-requires c =
 
 pub close-requires : goal.close-requires
 close-requires c =
-    let e = c.end-e.ensures in
-    can_close_it c.requires.0.underway c.requires.1 (c.if-c-e.true ∙ e)
+    can_close_it c.requires.0.underway c.requires.1 (grind (arith, nat_tests))
 
-pub returns-then-c-e-clause-copied : goal.returns-then-c-e-clause-copied
-returns-then-c-e-clause-copied c =
-    let e = c.end-e.ensures in
-    let h = c.if-c-e.true ∙ e in
+pub returns-then-eq-clause-copied : goal.returns-then-eq-clause-copied
+returns-then-eq-clause-copied c =
     let k = c.close.ensures.result_value in
     let u = c.close.ensures.sized in
-    let a = closed-kept c.requires.0.underway c.requires.1 h u k in (
+    let a = closed-kept c.requires.0.underway c.requires.1 (grind (arith, nat_tests)) u k in (
       record {
-        still = λ i l w U. closed U c.requires.1 h u k;
+        still = λ i l w U. closed U c.requires.1 (grind (arith, nat_tests)) u k;
         dist = a.dist;
         size = a.size;
         value = a.value;
       },
-      closed_less c.requires.0.underway c.requires.1 h u k,
+      closed_less c.requires.0.underway c.requires.1 (grind (arith, nat_tests)) u k,
     )
 
 pub stretch-requires : goal.stretch-requires
@@ -38,12 +36,12 @@ pub returns-clause-copied : goal.returns-clause-copied
 returns-clause-copied c =
     let e = c.end-e.ensures in
     let k = c.stretch.ensures in
-    let a = copied-kept c.requires.0.underway e c.if-c-e.false k.fact k.result_value in (
+    let a = copied-kept c.requires.0.underway e (grind (arith, nat_tests)) k.fact k.result_value in (
       record {
-        still = λ i l w U. copied U e c.if-c-e.false k.fact k.result_value;
+        still = λ i l w U. copied U e (grind (arith, nat_tests)) k.fact k.result_value;
         dist = a.dist;
         size = a.size;
         value = a.value;
       },
-      copied_less c.requires.0.underway e c.if-c-e.false k.fact k.result_value,
+      copied_less c.requires.0.underway e (grind (arith, nat_tests)) k.fact k.result_value,
     )

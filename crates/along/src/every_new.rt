@@ -41,7 +41,7 @@ pub fn map_new<L: Records>(
                 let end = goes.out.0 as usize;
                 records[start..first].fill(Record::NONE);
                 records[first..end].fill(k as u32);
-                count_up(&mut rows[start..first], s.row.0);
+                count_up(&mut rows[start..first], s.row.0 as usize);
                 count_up(&mut rows[first..end], 0);
                 s = goes;
             }
@@ -50,6 +50,6 @@ pub fn map_new<L: Records>(
     let start = s.out.0 as usize;
     let end = start + (t.size.len() - s.row.0 as usize);
     records[start..end].fill(Record::NONE);
-    count_up(&mut rows[start..end], s.row.0);
+    count_up(&mut rows[start..end], s.row.0 as usize);
     Ok(end as u64)
 }

@@ -26,12 +26,12 @@ pub fn map_old<L: Records>(t: Table, l: &L, i: Table, number: &mut [u32]) -> Res
             Meeting::Renamed(goes) => s = goes,
             Meeting::Here(at, _, goes) => {
                 let here = at.0 as usize;
-                count_up(&mut number[s.row.0 as usize..here], s.out.0);
+                count_up(&mut number[s.row.0 as usize..here], s.out.0 as usize);
                 number[here..goes.row.0 as usize].fill(NewPre::GONE);
                 s = goes;
             }
         }
     }
-    count_up(&mut number[s.row.0 as usize..rows], s.out.0);
+    count_up(&mut number[s.row.0 as usize..rows], s.out.0 as usize);
     Ok(rows as u64)
 }

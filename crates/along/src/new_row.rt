@@ -30,12 +30,12 @@ pub fn new_to_old<L: Records>(t: Table, l: &L, i: Table, row: NewPre) -> Result<
             Meeting::Vain => {}
             Meeting::Renamed(goes) => s = goes,
             Meeting::Here(_, run, goes) => {
-                let first = goes.out.0 - run;
-                if row.0 < first {
+                let first = NewPre(goes.out.0 - run);
+                if row < first {
                     return Ok(Source::Old(OldPre(s.row.0 + (row.0 - s.out.0))));
                 }
-                if row.0 < goes.out.0 {
-                    return Ok(Source::Run(k as u32, row.0 - first));
+                if row < goes.out {
+                    return Ok(Source::Run(k as u32, row.0 - first.0));
                 }
                 s = goes;
             }

@@ -33,10 +33,10 @@ pub fn old_to_new<L: Records>(
             Meeting::Vain => {}
             Meeting::Renamed(goes) => s = goes,
             Meeting::Here(at, _, goes) => {
-                if row.0 < at.0 {
+                if row < at {
                     return Ok(Some(NewPre(s.out.0 + (row.0 - s.row.0))));
                 }
-                if row.0 < goes.row.0 {
+                if row < goes.row {
                     return Ok(None);
                 }
                 s = goes;

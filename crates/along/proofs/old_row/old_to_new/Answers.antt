@@ -27,7 +27,8 @@ returns-then-lt g c =
 
 pub returns-then-lt-2 : goal.returns-then-lt-2
 returns-then-lt-2 g c =
-    (step _ _ _ _ _ c.loop-k.invariant c.record.ensures c.in-Here.ensures).taken (grind (arith, nat_tests)) (grind (arith, nat_tests))
+    (step _ _ _ _ _ c.loop-k.invariant c.record.ensures c.in-Here.ensures).taken (grind (arith, nat_tests))
+    (grind (arith, nat_tests))
 
 pub loop-k-preserved : goal.loop-k-preserved
 loop-k-preserved g c =

@@ -3,8 +3,8 @@
 #![tactic(auto)]
 
 use out::{column, flat, heading, worked};
-use plan::lent::{Changes, Table};
 use plan::Record;
+use plan::lent::{Changes, Table};
 use plan::refusal::Refusal;
 use refresh::{bulk, single};
 use std::io;

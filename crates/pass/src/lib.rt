@@ -92,6 +92,7 @@ fn tail_step(c: Cursor, t: Table, new: &mut NewTable) -> Cursor
 }
 
 // Behind the last record: all rows that are left are copied, and the root alone stays open.
+// By `upto` the rows that are open at the last row would all be closed, one by one; here they are copied at once.
 fn tail(start: Cursor, t: Table, new: &mut NewTable) -> Cursor
     requires { Last (read t) (held new.old) start }
     ensures copied { Copied (read t.entry) (held new.old) start (held new.new) result }

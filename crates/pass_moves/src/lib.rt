@@ -4,8 +4,8 @@
 
 ghost use Rattle.std.specs.Prelude.{◌≡◌, ◌+◌, ◌-◌, ◌<◌, ◌≤◌, length, get_or, set, drop};
 ghost use Rattle.plan.specs.Table.{table, read, most_rows};
-ghost use Rattle.pass_moves.specs.Written.{row, out, on_to, cursor, copied, laid, hung, rehung};
 ghost use Rattle.pass_moves.specs.Held.{held, SameColumns};
+ghost use Rattle.pass_moves.specs.Written.{row, out, on_to, cursor, copied, laid, hung, rehung};
 ghost use Rattle.pass_moves.specs.Written.{Ended, Pastes, Unread, Stretches, Wrote, Revalues, Revalued, Closes};
 
 use plan::lent::Table;
@@ -31,7 +31,7 @@ pub struct NewTable<'a> {
     pub value: &'a mut [u32],
 }
 
-// The row behind a row and its subtree.
+// The row behind a row and its subtree. It takes the one column that it reads.
 pub fn end(size: &[u32], row: OldPre) -> OldPre
     requires { Ended size.now row.0 }
     ensures { result.0 ≡ row.0 + get_or size.now row.0 0 }
@@ -124,6 +124,7 @@ pub fn stretch(c: Cursor, stop: OldPre, t: Table, new: &mut NewTable) -> Cursor
 }
 
 // The values of the rows before row p are copied to where these rows will stand, and row p gets the value a there.
+// It takes the one column that it reads and the one that it writes.
 pub fn revalue(c: Cursor, p: OldPre, a: u32, value: &[u32], nvalue: &mut [u32])
     requires { Revalues value.now nvalue.old c p.0 }
     ensures { Revalued value.now nvalue.old c p.0 a nvalue.new }

@@ -121,7 +121,3 @@ module _ {t u : Table} where
   readied_on r w =
       let x = w.went r.values r.ahead r.ready in
       record { values = r.values; ahead = x.ahead; ready = ready_on r.ready x.moved }
-
-  pub went-kept : {u' : Table} {c c' : Cursor} {p q : ℕ} → Readied t u c p q → Went t u c p q u' c'
-      → Kept (out c') u u'
-  went-kept r w = (w.went r.values r.ahead r.ready).moved.kept

@@ -13,6 +13,7 @@ use plan::lent::Table;
 use plan::{NewPre, OldPre};
 
 // Is the pass not yet where row p is next and q is open?
+// Rows are compared by their numbers: of a derived == a proof learns a Bool test, and would have to turn it back.
 pub fn elsewhere(c: Cursor, p: OldPre, q: OldPre) -> bool
     ensures { Elsewhere result c p.0 q.0 }
 {
@@ -49,7 +50,7 @@ fn step(c: Cursor, p: OldPre, q: OldPre, t: Table, new: &mut NewTable) -> Cursor
     }
 }
 
-// On to where row p is next and q is open.
+// On to where row p is next and q is open. It counts nothing: each step brings the pass nearer.
 pub fn upto(start: Cursor, p: OldPre, q: OldPre, t: Table, new: &mut NewTable) -> Cursor
     requires { Readied (read t) (held new.old) start p.0 q.0 }
     ensures went { Went (read t.entry) (held new.old) start p.0 q.0 (held new.new) result }

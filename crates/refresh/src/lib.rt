@@ -32,6 +32,8 @@ fn test_all<L: Records>(t: Table, l: &L, i: Table, new: Table) -> Result<(), Ref
 
 // A list of records, however it is lent, applied to a table: tested, and then written, one record after another. The
 // answer is the number of new rows.
+// The new columns are three parameters: of a struct that holds them each call would also have to say that it still
+// holds the same ones.
 pub fn apply<L: Records>(
     t: Table,
     l: &L,

@@ -11,7 +11,8 @@ use lib.ListN.{length, take, drop, replicate, length-replicate, length-map}
 use borrow.Author.Tests.{le-leb, eq-eqb, ne_eqb}
 use borrow.Rule.Slice.PartMut.{put_mid}
 use Rattle.std.proofs.lemmas.List.{drop_all}
-use Rattle.std.specs.Prelude.{Ok, Err}
+use Rattle.std.specs.Prelude.{Result, Ok, Err, IsErrAnd}
+use Rattle.std.proofs.lemmas.Result.{err_from_is_err_and}
 use Rattle.plan.specs.declared.Record.{Record}
 use Rattle.plan.specs.declared.Stand.{Stand}
 use Rattle.plan.specs.declared.Meeting.{Meeting}
@@ -92,10 +93,12 @@ module _ (t i : Table) (l : List Record) (u : Places) where
     pub rows : laid_from row_of s.out.0 v.rows ≡ laid_from row_of 0 u.rows
 
   -- ---- the tests
-  refused_so : (e : Refusal) → new_verdict true t i l u ≡ failed e → NewDone true t i l u (answer_told (Err e)) u
-  refused_so e h =
+  refused_so : (a : Result ℕ Refusal) (e : Refusal) → IsErrAnd a (λ f. f ≡ e) → new_verdict true t i l u ≡ failed e
+      → NewDone true t i l u (answer_told a) u
+  refused_so a e k h =
+      let p = err_from_is_err_and a k in
       let x = failed-fails e in
-      record { answered = rw (h, x.is); records = rw (h, x.is); rows = rw (h, x.is) }
+      record { answered = rw (p.1, p.2, h, x.is); records = rw (h, x.is); rows = rw (h, x.is) }
 
   -- the two columns differ in length
   pub odd : (length u.rows ≡ length u.records → ⊥) → NewDone true t i l u (refused 1 0 0) u
@@ -108,20 +111,20 @@ module _ (t i : Table) (l : List Record) (u : Places) where
     level : eqb (length u.rows) (length u.records) ≡ true
     level = eq-eqb (length u.rows) (length u.records) q
 
-    pub list_refused : (e : Refusal) → judgement_told (Err e) ≡ published_of (even t && even i) t i l
-        → NewDone true t i l u (answer_told (Err e)) u
+    pub list_refused : (a : Result ℕ Refusal) (e : Refusal) → IsErrAnd a (λ f. f ≡ e)
+        → judgement_told (Err e) ≡ published_of (even t && even i) t i l → NewDone true t i l u (answer_told a) u
     unfolding mapped
-    list_refused e h = refused_so e (rw level (list-refused _ _ (leb n (length u.records)) 10 0 n e h))
+    list_refused a e k h = refused_so a e k (rw level (list-refused _ _ (leb n (length u.records)) 10 0 n e h))
 
     module _ (m : ℕ) (h : judgement_told (Ok m) ≡ published_of (even t && even i) t i l) where
       needed : m ≡ n
       needed = (judged_told _ _ true 10 0 m m h).1
 
-      pub room_refused : (e : Refusal) → verdict_told (Err e) ≡ test (leb m (length u.records)) 10 0 m
-          → NewDone true t i l u (answer_told (Err e)) u
+      pub room_refused : (a : Result ℕ Refusal) (e : Refusal) → IsErrAnd a (λ f. f ≡ e)
+          → verdict_told (Err e) ≡ test (leb m (length u.records)) 10 0 m → NewDone true t i l u (answer_told a) u
       unfolding mapped
-      room_refused e f =
-          refused_so e (rw level (test_refused _ _ (leb n (length u.records)) 10 0 n m e h (rw needed at f)))
+      room_refused a e k f =
+          refused_so a e k (rw level (test_refused _ _ (leb n (length u.records)) 10 0 n m e h (rw needed at f)))
 
     written : judged (even t && even i) t i l ≡ Passed → n ≤ length u.records → (w : Places)
         → w.records ≡ laid_from record_of 0 u.records → w.rows ≡ laid_from row_of 0 u.rows

@@ -10,7 +10,8 @@ use lib.Dec.{ltb}
 use lib.ListN.{length, drop}
 use Rattle.std.proofs.lemmas.List.{drop_all}
 use borrow.Author.Tests.{lt-ltb}
-use Rattle.std.specs.Prelude.{Result, Ok, Err}
+use Rattle.std.specs.Prelude.{Result, Ok, Err, IsErrAnd}
+use Rattle.std.proofs.lemmas.Result.{err_from_is_err_and}
 use Rattle.plan.specs.declared.NewPre.{NewPre}
 use Rattle.plan.specs.declared.Record.{Record}
 use Rattle.plan.specs.declared.Stand.{Stand}
@@ -50,20 +51,22 @@ module _ (x : ℕ) (t i : Table) (l : List Record) where
     pub below : x < rows
 
   -- ---- the tests
-  refused_so : (e : Refusal) → queried true t i l rows x ≡ failed e → Right (Err e)
-  refused_so e h = let n = failed-fails e in rw (h, n.is)
+  refused_so : (a : Result Source Refusal) (e : Refusal) → IsErrAnd a (λ f. f ≡ e)
+      → queried true t i l rows x ≡ failed e → Right a
+  refused_so a e k h = let p = err_from_is_err_and a k in let n = failed-fails e in rw (p.1, p.2, h, n.is)
 
-  pub list_refused : (e : Refusal) → judgement_told (Err e) ≡ published_of (even t && even i) t i l
-      → Right (Err e)
+  pub list_refused : (a : Result Source Refusal) (e : Refusal) → IsErrAnd a (λ f. f ≡ e)
+      → judgement_told (Err e) ≡ published_of (even t && even i) t i l → Right a
   unfolding queried
-  list_refused e h = refused_so e (list-refused _ _ (ltb x rows) 11 x 0 e h)
+  list_refused a e k h = refused_so a e k (list-refused _ _ (ltb x rows) 11 x 0 e h)
 
   module _ (n : ℕ) (h : judgement_told (Ok n) ≡ published_of (even t && even i) t i l) where
-    pub row_refused : (e : Refusal) → verdict_told (Err e) ≡ test (ltb x n) 11 x 0 → Right (Err e)
+    pub row_refused : (a : Result Source Refusal) (e : Refusal) → IsErrAnd a (λ f. f ≡ e)
+        → verdict_told (Err e) ≡ test (ltb x n) 11 x 0 → Right a
     unfolding queried
-    row_refused e f =
+    row_refused a e k f =
         let needed = (judged_told _ _ (ltb x n) 11 x 0 n h).1 in
-        refused_so e (test_refused _ _ _ 11 x 0 n e h (rw needed at f))
+        refused_so a e k (test_refused _ _ _ 11 x 0 n e h (rw needed at f))
 
   followed : judged (even t && even i) t i l ≡ Passed → x < rows
       → (o : Origin) → origin_at (origins (result t i l)) x ≡ o

@@ -11,7 +11,8 @@ use lib.ListN.{length, take, drop, replicate, length-replicate}
 use borrow.Author.Tests.{le-leb}
 use borrow.Rule.Slice.PartMut.{put_mid}
 use Rattle.std.proofs.lemmas.List.{drop_all}
-use Rattle.std.specs.Prelude.{Ok, Err}
+use Rattle.std.specs.Prelude.{Result, Ok, Err, IsErrAnd}
+use Rattle.std.proofs.lemmas.Result.{err_from_is_err_and}
 use Rattle.plan.specs.declared.Record.{Record}
 use Rattle.plan.specs.declared.Stand.{Stand}
 use Rattle.plan.specs.declared.Meeting.{Meeting}
@@ -101,19 +102,23 @@ module _ (t i : Table) (l : List Record) (u : List ℕ) where
     pub still : laid (numbers_from s.row.0) v s.row.0 ≡ laid (numbers_from 0) u 0
 
   -- ---- the tests
-  refused_so : (e : Refusal) → old_verdict true t i l u ≡ failed e → OldDone true t i l u (answer_told (Err e)) u
-  refused_so e h = let x = failed-fails e in record { answered = rw (h, x.is); column = rw (h, x.is) }
+  refused_so : (a : Result ℕ Refusal) (e : Refusal) → IsErrAnd a (λ f. f ≡ e) → old_verdict true t i l u ≡ failed e
+      → OldDone true t i l u (answer_told a) u
+  refused_so a e k h =
+      let p = err_from_is_err_and a k in
+      let x = failed-fails e in
+      record { answered = rw (p.1, p.2, h, x.is); column = rw (h, x.is) }
 
-  pub list_refused : (e : Refusal) → judgement_told (Err e) ≡ published_of (even t && even i) t i l
-      → OldDone true t i l u (answer_told (Err e)) u
+  pub list_refused : (a : Result ℕ Refusal) (e : Refusal) → IsErrAnd a (λ f. f ≡ e)
+      → judgement_told (Err e) ≡ published_of (even t && even i) t i l → OldDone true t i l u (answer_told a) u
   unfolding mapped
-  list_refused e h = refused_so e (list-refused _ _ (leb n (length u)) 10 0 n e h)
+  list_refused a e k h = refused_so a e k (list-refused _ _ (leb n (length u)) 10 0 n e h)
 
   module _ (m : ℕ) (h : judgement_told (Ok m) ≡ published_of (even t && even i) t i l) where
-    pub room_refused : (e : Refusal) → verdict_told (Err e) ≡ test (leb n (length u)) 10 0 n
-        → OldDone true t i l u (answer_told (Err e)) u
+    pub room_refused : (a : Result ℕ Refusal) (e : Refusal) → IsErrAnd a (λ f. f ≡ e)
+        → verdict_told (Err e) ≡ test (leb n (length u)) 10 0 n → OldDone true t i l u (answer_told a) u
     unfolding mapped
-    room_refused e f = refused_so e (test_refused _ _ _ 10 0 n m e h f)
+    room_refused a e k f = refused_so a e k (test_refused _ _ _ 10 0 n m e h f)
 
   written : judged (even t && even i) t i l ≡ Passed → n ≤ length u → (w : List ℕ) → w ≡ laid (numbers_from 0) u 0
       → OldDone true t i l u (accepted n) w

@@ -10,7 +10,8 @@ use lib.Dec.{ltb}
 use lib.ListN.{length, drop}
 use Rattle.std.proofs.lemmas.List.{drop_all}
 use borrow.Author.Tests.{lt-ltb}
-use Rattle.std.specs.Prelude.{Option, Some, None, Result, Ok, Err}
+use Rattle.std.specs.Prelude.{Option, Some, None, Result, Ok, Err, IsErrAnd}
+use Rattle.std.proofs.lemmas.Result.{err_from_is_err_and}
 use Rattle.plan.specs.declared.OldPre.{OldPre}
 use Rattle.plan.specs.declared.NewPre.{NewPre}
 use Rattle.plan.specs.declared.Record.{Record}
@@ -44,19 +45,20 @@ module _ (x : ℕ) (t i : Table) (l : List Record) where
     pub below : x < length t.size
 
   -- ---- the tests
-  refused_so : (e : Refusal) → queried true t i l (length t.size) x ≡ failed e → Right (Err e)
-  refused_so e h = let n = failed-fails e in rw (h, n.is)
+  refused_so : (a : Result (Option NewPre) Refusal) (e : Refusal) → IsErrAnd a (λ f. f ≡ e)
+      → queried true t i l (length t.size) x ≡ failed e → Right a
+  refused_so a e k h = let p = err_from_is_err_and a k in let n = failed-fails e in rw (p.1, p.2, h, n.is)
 
-  pub list_refused : (e : Refusal) → judgement_told (Err e) ≡ published_of (even t && even i) t i l
-      → Right (Err e)
+  pub list_refused : (a : Result (Option NewPre) Refusal) (e : Refusal) → IsErrAnd a (λ f. f ≡ e)
+      → judgement_told (Err e) ≡ published_of (even t && even i) t i l → Right a
   unfolding queried
-  list_refused e h = refused_so e (list-refused _ _ (ltb x (length t.size)) 11 x 0 e h)
+  list_refused a e k h = refused_so a e k (list-refused _ _ (ltb x (length t.size)) 11 x 0 e h)
 
   module _ (n : ℕ) (h : judgement_told (Ok n) ≡ published_of (even t && even i) t i l) where
-    pub row_refused : (e : Refusal) → verdict_told (Err e) ≡ test (ltb x (length t.size)) 11 x 0
-        → Right (Err e)
+    pub row_refused : (a : Result (Option NewPre) Refusal) (e : Refusal) → IsErrAnd a (λ f. f ≡ e)
+        → verdict_told (Err e) ≡ test (ltb x (length t.size)) 11 x 0 → Right a
     unfolding queried
-    row_refused e f = refused_so e (test_refused _ _ _ 11 x 0 n e h f)
+    row_refused a e k f = refused_so a e k (test_refused _ _ _ 11 x 0 n e h f)
 
   followed : judged (even t && even i) t i l ≡ Passed → x < length t.size
       → (f : Fate) → fate (origins (result t i l)) 0 x ≡ f

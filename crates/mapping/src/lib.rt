@@ -17,6 +17,7 @@ use plan::refusal::Refusal;
 use plan::{NewPre, OldPre, Source};
 
 // Which new row the old row became; None if it is gone.
+#[tactic(auto, using(crate::proofs::Answers::became_uneven, std::proofs::lemmas::Grind::common_steps))]
 pub fn old_to_new(t: Table, l: Changes, i: Table, row: OldPre) -> Result<Option<NewPre>, Refusal>
     ensures { let t' = read t.entry in
         let i' = read i.entry in
@@ -28,6 +29,7 @@ pub fn old_to_new(t: Table, l: Changes, i: Table, row: OldPre) -> Result<Option<
 }
 
 // Which row the new row was.
+#[tactic(auto, using(crate::proofs::Answers::was_uneven, std::proofs::lemmas::Grind::common_steps))]
 pub fn new_to_old(t: Table, l: Changes, i: Table, row: NewPre) -> Result<Source, Refusal>
     ensures { let t' = read t.entry in
         let i' = read i.entry in

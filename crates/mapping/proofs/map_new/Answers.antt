@@ -1,9 +1,7 @@
 -- `mapping::map_new` meets its contract, where the list's columns are uneven.
-use Rattle.std.proofs.lemmas.Result.{err_from_is_err_and}
-use Rattle.mapping.proofs.Answers.{new_odd}
+use Rattle.mapping.proofs.Answers.{new_uneven}
 use Rattle.mapping.proofs.map_new.Goals as goal
 
 pub returns-in_err-try_from : goal.returns-in_err-try_from
 returns-in_err-try_from c =
-    let p = err_from_is_err_and c.from_residual.result c.from_residual.ensures.1 in
-    rw (p.1, p.2) (new_odd _ _ _ c.in_err-try_from.ensures _)
+    new_uneven _ _ _ _ _ c.from_residual.ensures.1 c.in_err-try_from.ensures

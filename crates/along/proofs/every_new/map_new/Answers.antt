@@ -1,7 +1,6 @@
 -- `along::every_new::map_new` meets its contract: before each record the columns are under way, with the records from
 -- there on left.
 use native.Mathlib.Omega.{arith}
-use Rattle.std.proofs.lemmas.Result.{err_from_is_err_and}
 use Rattle.along.proofs.NewColumns.{odd, list_refused, room_refused, step, went_on, last}
 use Rattle.along.proofs.Laying.{part-inside}
 use Rattle.along.proofs.Reaching.{asks, few-records}
@@ -13,14 +12,12 @@ returns-then-rows-records g c = odd _ _ _ _ (λ e. omega arith)
 
 pub returns-in_err-n : goal.returns-in_err-n
 returns-in_err-n g c =
-    let p = err_from_is_err_and c.from_residual.result c.from_residual.ensures.1 in
-    rw (p.1, p.2) (list_refused _ _ _ _ (omega arith) _ c.in_err-n.ensures)
+    list_refused _ _ _ _ (omega arith) _ _ c.from_residual.ensures.1 c.in_err-n.ensures
 
 pub returns-in_err-test_room : goal.returns-in_err-test_room
 returns-in_err-test_room g c =
-    let f = c.from_residual-in_err-test_room in
-    let p = err_from_is_err_and f.result f.ensures.1 in
-    rw (p.1, p.2) (room_refused _ _ _ _ (omega arith) _ c.in_ok-n.ensures _ c.in_err-test_room.ensures)
+    room_refused _ _ _ _ (omega arith) _ c.in_ok-n.ensures _ _ c.from_residual-in_err-test_room.ensures.1
+    c.in_err-test_room.ensures
 
 pub met-requires : goal.met-requires
 met-requires g c = asks _ _ _ _ _ _ c.loop-k.invariant.reached c.record.ensures

@@ -1,7 +1,6 @@
 -- `along::every_old::map_old` meets its contract: before each record the column is under way, with the records from
 -- there on left.
 use native.Mathlib.Omega.{arith}
-use Rattle.std.proofs.lemmas.Result.{err_from_is_err_and}
 use Rattle.along.proofs.OldColumns.{list_refused, room_refused, step, went_on, last}
 use Rattle.along.proofs.Laying.{part-inside}
 use Rattle.along.proofs.Reaching.{asks}
@@ -10,14 +9,12 @@ use Rattle.along.proofs.every_old.map_old.Goals.{in-Vain, in-Renamed, in-Here}
 
 pub returns-in_err-judged : goal.returns-in_err-judged
 returns-in_err-judged g c =
-    let p = err_from_is_err_and c.from_residual.result c.from_residual.ensures.1 in
-    rw (p.1, p.2) (list_refused _ _ _ _ _ c.in_err-judged.ensures)
+    list_refused _ _ _ _ _ _ c.from_residual.ensures.1 c.in_err-judged.ensures
 
 pub returns-in_err-test_room : goal.returns-in_err-test_room
 returns-in_err-test_room g c =
-    let f = c.from_residual-in_err-test_room in
-    let p = err_from_is_err_and f.result f.ensures.1 in
-    rw (p.1, p.2) (room_refused _ _ _ _ _ c.in_ok-judged.ensures _ c.in_err-test_room.ensures)
+    room_refused _ _ _ _ _ c.in_ok-judged.ensures _ _ c.from_residual-in_err-test_room.ensures.1
+    c.in_err-test_room.ensures
 
 pub met-requires : goal.met-requires
 met-requires g c = asks _ _ _ _ _ _ c.loop-k.invariant.reached c.record.ensures

@@ -1,7 +1,6 @@
 -- `along::new_row::new_to_old` meets its contract.
 use native.Mathlib.Omega.{arith}
 use Rattle.std.proofs.lemmas.Bool.Decides.{nat_tests}
-use Rattle.std.proofs.lemmas.Result.{err_from_is_err_and}
 use Rattle.along.proofs.NewRows.{list_refused, row_refused, step, fits, last}
 use Rattle.along.proofs.Reaching.{asks, few-records}
 use Rattle.along.proofs.new_row.new_to_old.Goals as goal
@@ -9,14 +8,12 @@ use Rattle.along.proofs.new_row.new_to_old.Goals.{in-Vain, in-Renamed, in-Here+e
 
 pub returns-in_err-n : goal.returns-in_err-n
 returns-in_err-n g c =
-    let p = err_from_is_err_and c.from_residual.result c.from_residual.ensures.1 in
-    rw (p.1, p.2) (list_refused _ _ _ _ _ c.in_err-n.ensures)
+    list_refused _ _ _ _ _ _ c.from_residual.ensures.1 c.in_err-n.ensures
 
 pub returns-in_err-test_row : goal.returns-in_err-test_row
 returns-in_err-test_row g c =
-    let f = c.from_residual-in_err-test_row in
-    let p = err_from_is_err_and f.result f.ensures.1 in
-    rw (p.1, p.2) (row_refused _ _ _ _ _ c.in_ok-n.ensures _ c.in_err-test_row.ensures)
+    row_refused _ _ _ _ _ c.in_ok-n.ensures _ _ c.from_residual-in_err-test_row.ensures.1
+    c.in_err-test_row.ensures
 
 pub met-requires : goal.met-requires
 met-requires g c = asks _ _ _ _ _ _ c.loop-k.invariant.reached c.record.ensures

@@ -1,7 +1,6 @@
 -- `along::old_row::old_to_new` meets its contract.
 use native.Mathlib.Omega.{arith}
 use Rattle.std.proofs.lemmas.Bool.Decides.{nat_tests}
-use Rattle.std.proofs.lemmas.Result.{err_from_is_err_and}
 use Rattle.along.proofs.OldRows.{list_refused, row_refused, step, fits, last}
 use Rattle.along.proofs.Reaching.{asks}
 use Rattle.along.proofs.old_row.old_to_new.Goals as goal
@@ -9,14 +8,12 @@ use Rattle.along.proofs.old_row.old_to_new.Goals.{in-Vain, in-Renamed, in-Here+e
 
 pub returns-in_err-judged : goal.returns-in_err-judged
 returns-in_err-judged g c =
-    let p = err_from_is_err_and c.from_residual.result c.from_residual.ensures.1 in
-    rw (p.1, p.2) (list_refused _ _ _ _ _ c.in_err-judged.ensures)
+    list_refused _ _ _ _ _ _ c.from_residual.ensures.1 c.in_err-judged.ensures
 
 pub returns-in_err-test_row : goal.returns-in_err-test_row
 returns-in_err-test_row g c =
-    let f = c.from_residual-in_err-test_row in
-    let p = err_from_is_err_and f.result f.ensures.1 in
-    rw (p.1, p.2) (row_refused _ _ _ _ _ c.in_ok-judged.ensures _ c.in_err-test_row.ensures)
+    row_refused _ _ _ _ _ c.in_ok-judged.ensures _ _ c.from_residual-in_err-test_row.ensures.1
+    c.in_err-test_row.ensures
 
 pub met-requires : goal.met-requires
 met-requires g c = asks _ _ _ _ _ _ c.loop-k.invariant.reached c.record.ensures

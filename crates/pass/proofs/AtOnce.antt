@@ -5,11 +5,11 @@ use native.Mathlib.Omega.{arith}
 use Rattle.plan.proofs.Kit.{by_place}
 use mathlib.Core.Path.{◌≡◌, refl, sym, ap, ◌∙◌}
 use mathlib.Core.List.{List, []}
-use lib.ListN.{length}
+use lib.ListN.{length, set}
 use lib.Seq.{take_all}
 use Rattle.plan.specs.declared.Record.{Record}
 use Rattle.plan.specs.Tree.{Forest, none, count}
-use Rattle.plan.specs.Table.{Table}
+use Rattle.plan.specs.Table.{Table, table}
 use Rattle.plan.specs.Open.{dist_at, size_at}
 use Rattle.pass_moves.proofs.Rows.{table_eq, tall_rows, tall_tree}
 use Rattle.pass_moves.specs.Rows.{◌⧺◌, rows, first_rows}
@@ -26,6 +26,10 @@ use Rattle.pass_way.proofs.Steps.{copied_to, plainly, as_state, good, Fits, fits
 use Rattle.pass.specs.Underway.{Underway}
 use Rattle.pass.proofs.Given.{stops_on}
 use Rattle.pass.proofs.Ended.{valued_most, rows-low, few-rows, at_last, tree-on, ends, ready, to_the_end, moved_on}
+
+-- the columns with one size written
+pub sized-is : (u : Table) (j n : ℕ) {l : List ℕ} → l ≡ set u.size j n → table u.dist l u.value ≡ sized u j n
+sized-is u j n e = table_eq refl e refl
 
 module _ {t i : Table} {l : List Record} {w u : Table} {c : Cursor} (U : Underway t i l w u c []) where
   pub parent-ends : Ended t.size c.parent.0

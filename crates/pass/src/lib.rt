@@ -1,12 +1,11 @@
 // The pass: a list of records over the columns of a table, in one walk from left to right. Old rows are copied, records
 // are taken as their places come; what is open is found again by the distances, so there is no array and no stack.
-// In the contracts t is the table and i the insertions.
+// In the contracts t is the table, i the insertions, u the new columns before, and v after.
 #![tactic(auto)]
 
 ghost use Rattle.std.specs.Prelude.{◌≡◌, ◌<◌, ◌≤◌, length, get_or};
-ghost use Rattle.plan.specs.Table.{read};
+ghost use Rattle.plan.specs.Table.{table, read};
 ghost use Rattle.plan.specs.Way.{stand};
-ghost use Rattle.pass_moves.specs.Held.{held, SameColumns};
 ghost use Rattle.pass_moves.specs.Rows.{Room};
 ghost use Rattle.pass_moves.specs.Written.{row, cursor, rowed};
 ghost use Rattle.pass_way.specs.Machine.{Away};
@@ -16,20 +15,30 @@ ghost use Rattle.pass.specs.Underway.{Next, Taken, Last, Copied, Finished};
 
 use judge_record::run::has_run;
 use judge_record::way::{meet, row_behind, run_rows};
-use pass_moves::{Cursor, NewTable, close, end, paste, revalue, stretch};
+use pass_moves::{Cursor, close, end, paste, revalue, stretch};
 use pass_way::{elsewhere, upto};
 use plan::lent::Table;
 use plan::{Meeting, NewPre, OldPre, Record, Stand};
 
 // The record's run, of so many rows, becomes the next new rows.
-fn bring(c: Cursor, r: Record, run: u32, i: Table, new: &mut NewTable)
-    requires { Brings (read i) (held new.old) c r run }
-    ensures brought { held new.new ≡ with_run (read i.entry) (held new.old) c r run }
-    ensures same { SameColumns new.old new.new }
+fn bring(
+    c: Cursor,
+    r: Record,
+    run: u32,
+    i: Table,
+    ndist: &mut [u32],
+    nsize: &mut [u32],
+    nvalue: &mut [u32],
+)
+    requires { let u = table ndist.old nsize.old nvalue.old in
+        Brings (read i) u c r run }
+    ensures { let u = table ndist.old nsize.old nvalue.old in
+        let v = table ndist.new nsize.new nvalue.new in
+        v ≡ with_run (read i.entry) u c r run }
 {
     if has_run(r) {
         let from = r.from as usize;
-        paste(c, i, from, run as usize, new);
+        paste(c, i, from, run as usize, ndist, nsize, nvalue);
     }
 }
 
@@ -47,13 +56,23 @@ fn parent_of(dist: &[u32], r: Record) -> OldPre
 
 // The next record is taken. The root is open already: a record there gives it another value. So does a rename, to a row
 // ahead: the pass stays where it is.
-pub fn one(c: Cursor, r: Record, t: Table, i: Table, new: &mut NewTable) -> Cursor
-    requires { Next (read t) (read i) (held new.old) c r }
-    ensures taken { Taken (read t.entry) (read i.entry) (held new.old) c r (held new.new) result }
-    ensures same { SameColumns new.old new.new }
+pub fn one(
+    c: Cursor,
+    r: Record,
+    t: Table,
+    i: Table,
+    ndist: &mut [u32],
+    nsize: &mut [u32],
+    nvalue: &mut [u32],
+) -> Cursor
+    requires { let u = table ndist.old nsize.old nvalue.old in
+        Next (read t) (read i) u c r }
+    ensures { let u = table ndist.old nsize.old nvalue.old in
+        let v = table ndist.new nsize.new nvalue.new in
+        Taken (read t.entry) (read i.entry) u c r v result }
 {
     if r.location == 0 {
-        new.value[0] = r.value;
+        nvalue[0] = r.value;
         return c;
     }
     let behind = row_behind(t.size, r);
@@ -61,7 +80,7 @@ pub fn one(c: Cursor, r: Record, t: Table, i: Table, new: &mut NewTable) -> Curs
     match meet(c.stand, r, behind, run) {
         Meeting::Vain => c,
         Meeting::Renamed(next) => {
-            revalue(c, OldPre(r.location), r.value, t.value, new.value);
+            revalue(c, OldPre(r.location), r.value, t.value, nvalue);
             Cursor {
                 stand: next,
                 valued: OldPre(r.location + 1),
@@ -70,65 +89,84 @@ pub fn one(c: Cursor, r: Record, t: Table, i: Table, new: &mut NewTable) -> Curs
         }
         Meeting::Here(p, rows, next) => {
             let q = parent_of(t.dist, r);
-            let k = upto(c, p, q, t, new);
-            bring(k, r, rows, i, new);
+            let k = upto(c, p, q, t, ndist, nsize, nvalue);
+            bring(k, r, rows, i, ndist, nsize, nvalue);
             Cursor { stand: next, ..k }
         }
     }
 }
 
 // Behind the last record, one step: the open row is closed, or all rows left under it are copied.
-fn tail_step(c: Cursor, t: Table, new: &mut NewTable) -> Cursor
-    requires { Last (read t) (held new.old) c × Away (length t.size.now) 0 (row c) c.parent.0 }
-    ensures copied { let t = read t.entry in
-        Copied t (held new.old) c (held new.new) result × (ahead t result < ahead t c) }
-    ensures same { SameColumns new.old new.new }
+fn tail_step(
+    c: Cursor,
+    t: Table,
+    ndist: &mut [u32],
+    nsize: &mut [u32],
+    nvalue: &mut [u32],
+) -> Cursor
+    requires { let u = table ndist.old nsize.old nvalue.old in
+        Last (read t) u c × Away (length t.size.now) 0 (row c) c.parent.0 }
+    ensures { let t = read t.entry in
+        let u = table ndist.old nsize.old nvalue.old in
+        let v = table ndist.new nsize.new nvalue.new in
+        Copied t u c v result × (ahead t result < ahead t c) }
 {
     let e = end(t.size, c.parent);
     if c.stand.row == e {
-        return close(c, t.dist, new);
+        return close(c, t.dist, ndist, nsize);
     }
-    stretch(c, e, t, new)
+    stretch(c, e, t, ndist, nsize, nvalue)
 }
 
 // Behind the last record: all rows that are left are copied, and the root alone stays open.
 // By `upto` the rows that are open at the last row would all be closed, one by one; here they are copied at once.
-fn tail(start: Cursor, t: Table, new: &mut NewTable) -> Cursor
-    requires { Last (read t) (held new.old) start }
-    ensures copied { Copied (read t.entry) (held new.old) start (held new.new) result }
-    ensures there { (row result ≡ length (read t.entry).size) × (result.parent.0 ≡ 0) }
-    ensures same { SameColumns new.old new.new }
+fn tail(start: Cursor, t: Table, ndist: &mut [u32], nsize: &mut [u32], nvalue: &mut [u32]) -> Cursor
+    requires { let u = table ndist.old nsize.old nvalue.old in
+        Last (read t) u start }
+    ensures { let t = read t.entry in
+        let u = table ndist.old nsize.old nvalue.old in
+        let v = table ndist.new nsize.new nvalue.new in
+        Copied t u start v result × (row result ≡ length t.size) × (result.parent.0 ≡ 0) }
 {
     let n = OldPre(t.size.len() as u32);
     let root = OldPre(0);
     let mut c = start;
     while elsewhere(c, n, root) {
-        c = tail_step(c, t, new);
+        c = tail_step(c, t, ndist, nsize, nvalue);
     }
     c
 }
 
 // The rows behind the last record, and the root's size. The answer is the number of new rows.
-pub fn finish(c: Cursor, t: Table, new: &mut NewTable) -> usize
-    requires { Last (read t) (held new.old) c }
-    ensures finished { Finished (read t.entry) (held new.old) c (held new.new) result }
-    ensures same { SameColumns new.old new.new }
+pub fn finish(
+    c: Cursor,
+    t: Table,
+    ndist: &mut [u32],
+    nsize: &mut [u32],
+    nvalue: &mut [u32],
+) -> usize
+    requires { let u = table ndist.old nsize.old nvalue.old in
+        Last (read t) u c }
+    ensures { let u = table ndist.old nsize.old nvalue.old in
+        let v = table ndist.new nsize.new nvalue.new in
+        Finished (read t.entry) u c v result }
 {
-    let rows = tail(c, t, new).stand.out.0;
-    new.size[0] = rows;
+    let rows = tail(c, t, ndist, nsize, nvalue).stand.out.0;
+    nsize[0] = rows;
     rows as usize
 }
 
 // The root's row, with the value a. It is open.
-pub fn begin(a: u32, new: &mut NewTable) -> Cursor
-    requires { Room 1 (held new.old) }
+pub fn begin(a: u32, ndist: &mut [u32], nsize: &mut [u32], nvalue: &mut [u32]) -> Cursor
+    requires { Room 1 (table ndist.old nsize.old nvalue.old) }
     ensures value { result ≡ cursor (stand 1 1 0 0) 0 0 0 }
-    ensures wrote { held new.new ≡ rowed (held new.old) 0 1 0 a }
-    ensures same { SameColumns new.old new.new }
+    ensures v_after { let u = table ndist.old nsize.old nvalue.old in
+        let v = table ndist.new nsize.new nvalue.new in
+        v ≡ rowed u 0 1 0 a }
 {
-    new.dist[0] = 1;
-    new.size[0] = 0;
-    new.value[0] = a;
+    ndist[0] = 1;
+    nsize[0] = 0;
+    nvalue[0] = a;
     Cursor {
         stand: Stand {
             row: OldPre(1),

@@ -1,10 +1,9 @@
 // The small moves of the pass: rows are copied, values are written ahead, a row is closed. Each says what the new
-// columns hold then.
+// columns hold then. In the contracts t is the table that rows are taken from, u the new columns before, and v after.
 #![tactic(auto)]
 
 ghost use Rattle.std.specs.Prelude.{◌≡◌, ◌+◌, ◌-◌, ◌<◌, ◌≤◌, length, get_or, set, drop};
 ghost use Rattle.plan.specs.Table.{table, read, most_rows};
-ghost use Rattle.pass_moves.specs.Held.{held, SameColumns};
 ghost use Rattle.pass_moves.specs.Written.{row, out, on_to, cursor, copied, laid, hung, rehung};
 ghost use Rattle.pass_moves.specs.Written.{Ended, Pastes, Unread, Stretches, Wrote, Revalues, Revalued, Closes};
 
@@ -21,14 +20,6 @@ pub struct Cursor {
     pub under: NewPre,
     // the values of the old rows before this one are there already
     pub valued: OldPre,
-}
-
-// The columns of the new table, lent to be written.
-#[derive(Drop)]
-pub struct NewTable<'a> {
-    pub dist: &'a mut [u32],
-    pub size: &'a mut [u32],
-    pub value: &'a mut [u32],
 }
 
 // The row behind a row and its subtree. It takes the one column that it reads.
@@ -48,17 +39,26 @@ fn copy(column: &[u32], from: usize, count: usize, new: &mut [u32], at: usize)
 }
 
 // The rows of a run become the next new rows, under the open row.
-pub fn paste(c: Cursor, t: Table, from: usize, count: usize, new: &mut NewTable)
-    requires { Pastes (read t) from count (held new.old) c }
-    ensures wrote { let d = out c - c.under.0 in
-        held new.new ≡ laid (held new.old) (out c) (read t.entry) from count d }
-    ensures same { SameColumns new.old new.new }
+pub fn paste(
+    c: Cursor,
+    t: Table,
+    from: usize,
+    count: usize,
+    ndist: &mut [u32],
+    nsize: &mut [u32],
+    nvalue: &mut [u32],
+)
+    requires { let u = table ndist.old nsize.old nvalue.old in
+        Pastes (read t) from count u c }
+    ensures { let u = table ndist.old nsize.old nvalue.old in
+        let v = table ndist.new nsize.new nvalue.new in
+        v ≡ laid u (out c) (read t.entry) from count (out c - c.under.0) }
 {
     let at = c.stand.out.0 as usize;
-    copy(t.dist, from, count, new.dist, at);
-    new.dist[at] = c.stand.out.0 - c.under.0;
-    copy(t.size, from, count, new.size, at);
-    copy(t.value, from, count, new.value, at);
+    copy(t.dist, from, count, ndist, at);
+    ndist[at] = c.stand.out.0 - c.under.0;
+    copy(t.size, from, count, nsize, at);
+    copy(t.value, from, count, nvalue, at);
 }
 
 // The distance of the row at place j of a stretch: it leads to the open row, d rows before the stretch, or stays.
@@ -90,27 +90,36 @@ fn unread(row: OldPre, valued: OldPre, stop: OldPre) -> OldPre
 }
 
 // The rows up to row `stop`, which all lie under the open row, become the next new rows.
-pub fn stretch(c: Cursor, stop: OldPre, t: Table, new: &mut NewTable) -> Cursor
-    requires { Stretches (read t) stop.0 (held new.old) c }
+pub fn stretch(
+    c: Cursor,
+    stop: OldPre,
+    t: Table,
+    ndist: &mut [u32],
+    nsize: &mut [u32],
+    nvalue: &mut [u32],
+) -> Cursor
+    requires { let u = table ndist.old nsize.old nvalue.old in
+        Stretches (read t) stop.0 u c }
     ensures result_value { let s = on_to c.stand stop.0 (out c + (stop.0 - row c)) in
         result ≡ cursor s c.parent.0 c.under.0 c.valued.0 }
-    ensures fact { Wrote (read t.entry) (held new.old) c stop.0 (held new.new) }
-    ensures same { SameColumns new.old new.new }
+    ensures fact { let u = table ndist.old nsize.old nvalue.old in
+        let v = table ndist.new nsize.new nvalue.new in
+        Wrote (read t.entry) u c stop.0 v }
 {
     let row = c.stand.row;
     let out = c.stand.out;
     let at = out.0 as usize;
     let first = row.0 as usize;
     let rows = stop.0 as usize - first;
-    rehang(t.dist, first, rows, out.0 - c.under.0, new.dist, at);
-    copy(t.size, first, rows, new.size, at);
+    rehang(t.dist, first, rows, out.0 - c.under.0, ndist, at);
+    copy(t.size, first, rows, nsize, at);
     let left = unread(row, c.valued, stop);
     let from = left.0 as usize;
     copy(
         t.value,
         from,
         stop.0 as usize - from,
-        new.value,
+        nvalue,
         at + (from - first),
     );
     Cursor {
@@ -140,21 +149,19 @@ pub fn revalue(c: Cursor, p: OldPre, a: u32, value: &[u32], nvalue: &mut [u32])
 }
 
 // The open row is closed: its size is known. Its parent, old and new, is open.
-pub fn close(c: Cursor, dist: &[u32], new: &mut NewTable) -> Cursor
-    requires { Closes dist.now new.old.dist.now new.old.size.now c }
+pub fn close(c: Cursor, dist: &[u32], ndist: &[u32], nsize: &mut [u32]) -> Cursor
+    requires { Closes dist.now ndist.now nsize.old c }
     ensures result_value { let q = c.parent.0 - get_or dist.now c.parent.0 0 in
-        let j = c.under.0 - get_or new.old.dist.now c.under.0 0 in
+        let j = c.under.0 - get_or ndist.now c.under.0 0 in
         result ≡ cursor c.stand q j c.valued.0 }
-    ensures sized { let u = held new.old in
-        held new.new ≡ table u.dist (set u.size c.under.0 (out c - c.under.0)) u.value }
-    ensures same { SameColumns new.old new.new }
+    ensures nsize_after { nsize.new ≡ set nsize.old c.under.0 (out c - c.under.0) }
 {
     let parent = c.parent.0;
     let under = c.under.0;
-    new.size[under as usize] = c.stand.out.0 - under;
+    nsize[under as usize] = c.stand.out.0 - under;
     Cursor {
         parent: OldPre(parent - dist[parent as usize]),
-        under: NewPre(under - new.dist[under as usize]),
+        under: NewPre(under - ndist[under as usize]),
         ..c
     }
 }

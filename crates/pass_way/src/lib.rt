@@ -2,13 +2,12 @@
 #![tactic(auto)]
 
 ghost use Rattle.std.specs.Prelude.{◌≡◌, ◌<◌};
-ghost use Rattle.plan.specs.Table.{read};
-ghost use Rattle.pass_moves.specs.Held.{held, SameColumns};
+ghost use Rattle.plan.specs.Table.{table, read};
 ghost use Rattle.pass_way.specs.Machine.{Away};
 ghost use Rattle.pass_moves.specs.Written.{row};
 ghost use Rattle.pass_way.specs.Walk.{Elsewhere, Nearer, Readied, Went, ahead};
 
-use pass_moves::{Cursor, NewTable, close, end, stretch};
+use pass_moves::{Cursor, close, end, stretch};
 use plan::lent::Table;
 use plan::{NewPre, OldPre};
 
@@ -29,17 +28,27 @@ fn nearer(a: OldPre, b: OldPre) -> OldPre
 
 // One step: the open row is closed, or all rows left under it are copied, or those up to row p, the last of which is
 // then open.
-fn step(c: Cursor, p: OldPre, q: OldPre, t: Table, new: &mut NewTable) -> Cursor
-    requires { Readied (read t) (held new.old) c p.0 q.0 × Away p.0 q.0 (row c) c.parent.0 }
-    ensures went { let t = read t.entry in
-        Went t (held new.old) c p.0 q.0 (held new.new) result × (ahead t result < ahead t c) }
-    ensures same { SameColumns new.old new.new }
+fn step(
+    c: Cursor,
+    p: OldPre,
+    q: OldPre,
+    t: Table,
+    ndist: &mut [u32],
+    nsize: &mut [u32],
+    nvalue: &mut [u32],
+) -> Cursor
+    requires { let u = table ndist.old nsize.old nvalue.old in
+        Readied (read t) u c p.0 q.0 × Away p.0 q.0 (row c) c.parent.0 }
+    ensures { let t = read t.entry in
+        let u = table ndist.old nsize.old nvalue.old in
+        let v = table ndist.new nsize.new nvalue.new in
+        Went t u c p.0 q.0 v result × (ahead t result < ahead t c) }
 {
     let e = end(t.size, c.parent);
     if c.stand.row == e {
-        return close(c, t.dist, new);
+        return close(c, t.dist, ndist, nsize);
     }
-    let k = stretch(c, nearer(e, p), t, new);
+    let k = stretch(c, nearer(e, p), t, ndist, nsize, nvalue);
     if e < p {
         return k;
     }
@@ -51,15 +60,25 @@ fn step(c: Cursor, p: OldPre, q: OldPre, t: Table, new: &mut NewTable) -> Cursor
 }
 
 // On to where row p is next and q is open. It counts nothing: each step brings the pass nearer.
-pub fn upto(start: Cursor, p: OldPre, q: OldPre, t: Table, new: &mut NewTable) -> Cursor
-    requires { Readied (read t) (held new.old) start p.0 q.0 }
-    ensures went { Went (read t.entry) (held new.old) start p.0 q.0 (held new.new) result }
-    ensures there { (row result ≡ p.0) × (result.parent.0 ≡ q.0) }
-    ensures same { SameColumns new.old new.new }
+pub fn upto(
+    start: Cursor,
+    p: OldPre,
+    q: OldPre,
+    t: Table,
+    ndist: &mut [u32],
+    nsize: &mut [u32],
+    nvalue: &mut [u32],
+) -> Cursor
+    requires { let u = table ndist.old nsize.old nvalue.old in
+        Readied (read t) u start p.0 q.0 }
+    ensures { let t = read t.entry in
+        let u = table ndist.old nsize.old nvalue.old in
+        let v = table ndist.new nsize.new nvalue.new in
+        Went t u start p.0 q.0 v result × (row result ≡ p.0) × (result.parent.0 ≡ q.0) }
 {
     let mut c = start;
     while elsewhere(c, p, q) {
-        c = step(c, p, q, t, new);
+        c = step(c, p, q, t, ndist, nsize, nvalue);
     }
     c
 }

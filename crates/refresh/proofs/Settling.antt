@@ -108,8 +108,8 @@ module _ (t i : Table) (l : List Record) (u : Table) where
     begun at written = rw (at, written) (underway-begun given)
 
     -- behind the last record
-    pub done_written : {v w x : Table} {c : Cursor} {m : ℕ} (n : ℕ) → length l ≤ n → Underway t i l u v c (drop n l)
-        → Finished t v c w m → x ≡ w → Done true t i l u (accepted m) x
-    done_written n k g d e =
+    pub done_written : {v w : Table} {c : Cursor} {m : ℕ} (n : ℕ) → length l ≤ n → Underway t i l u v c (drop n l)
+        → Finished t v c w m → Done true t i l u (accepted m) w
+    done_written n k g d =
         let q = d.answered i l u (rw (drop_all n l k) at g) in
-        record { answered = rw (← h, q.rows); columns = rw (← h) (e ∙ q.columns) }
+        record { answered = rw (← h, q.rows); columns = rw (← h) q.columns }

@@ -13,7 +13,6 @@ use judge::exam::judged;
 use judge::list::Level;
 use judge::test_room;
 use pass::{begin, finish, one};
-use pass_moves::NewTable;
 use plan::Record;
 use plan::lent::{Changes, Records, Table};
 use plan::refusal::Refusal;
@@ -46,22 +45,17 @@ pub fn apply<L: Records>(
         let w = table ndist.new nsize.new nvalue.new in
         Done true (read t.entry) (read i.entry) (L.list l.now) u (answer_told result) w }
 {
-    let tested = Table {
+    let new = Table {
         dist: ndist,
         size: nsize,
         value: nvalue,
     };
-    test_all(t, l, i, tested)?;
-    let mut new = NewTable {
-        dist: ndist,
-        size: nsize,
-        value: nvalue,
-    };
-    let mut c = begin(t.value[0], &mut new);
+    test_all(t, l, i, new)?;
+    let mut c = begin(t.value[0], ndist, nsize, nvalue);
     for j in 0..l.len() {
-        c = one(c, l.record(j), t, i, &mut new);
+        c = one(c, l.record(j), t, i, ndist, nsize, nvalue);
     }
-    let rows = finish(c, t, &mut new);
+    let rows = finish(c, t, ndist, nsize, nvalue);
     Ok(rows as u64)
 }
 

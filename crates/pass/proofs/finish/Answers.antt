@@ -3,12 +3,12 @@
 use Rattle.pass.proofs.Ended.{root-there, answered}
 use Rattle.pass.proofs.finish.Goals as goal
 
-pub bounds-new-0 : goal.bounds-new-0
-bounds-new-0 c =
+pub bounds-nsize-0 : goal.bounds-nsize-0
+bounds-nsize-0 c =
     let k = c.tail-rows.ensures in
-    root-there (k.copied.still _ _ _ c.requires.underway) k.there.0 k.there.1
+    root-there (k.0.still _ _ _ c.requires.underway) k.1 k.2
 
-pub returns-clause-finished : goal.returns-clause-finished
-returns-clause-finished c =
+pub returns : goal.returns
+returns c =
     let k = c.tail-rows.ensures in
-    record { answered = λ i l w h. answered (k.copied.still i l w h) k.there.0 k.there.1 }
+    record { answered = λ i l w h. answered (k.0.still i l w h) k.1 k.2 }

@@ -17,8 +17,8 @@ told_here : (c : In-Here)
     (Here c.in-Here.p c.in-Here.rows c.in-Here.next)
 told_here c = tells c.args.c.stand c.args.r c.row_behind-behind.result.0 c.run_rows-run.result c.in-Here.ensures
 
-pub returns-then-r-eq0-clause-taken : goal.returns-then-r-eq0-clause-taken
-returns-then-r-eq0-clause-taken c = record { onward = λ l w rs h. taken-root h c.if-r-eq0.true }
+pub returns-then-r-eq0 : goal.returns-then-r-eq0
+returns-then-r-eq0 c = record { onward = λ l w rs h. taken-root h c.if-r-eq0.true }
 
 pub row_behind-behind-requires : goal.row_behind-behind-requires
 row_behind-behind-requires c =
@@ -55,30 +55,30 @@ pub bring-requires : goal.bring-requires
 bring-requires c =
     let m = told_here (goal.at.bring-requires c).In-Here in
     let k = c.upto-k.ensures in
-    can_bring_it c.requires.underway c.if-r-eq0.false m.0 m.2 c.parent_of-q.ensures k.went k.there.0 k.there.1
+    can_bring_it c.requires.underway c.if-r-eq0.false m.0 m.2 c.parent_of-q.ensures k.0 k.1 k.2
     m.1 c.run_rows-run.ensures m.3
 
-pub returns-in-Vain-clause-taken : goal.returns-in-Vain-clause-taken
-returns-in-Vain-clause-taken c =
+pub returns-in-Vain : goal.returns-in-Vain
+returns-in-Vain c =
     let m = tells c.args.c.stand c.args.r c.row_behind-behind.result.0 c.run_rows-run.result c.in-Vain.ensures in
     record { onward = λ l w rs h. taken-vain h c.if-r-eq0.false m }
 
-pub returns-in-Renamed-clause-taken : goal.returns-in-Renamed-clause-taken
-returns-in-Renamed-clause-taken c =
-    let m = told_renamed (goal.at.returns-in-Renamed-clause-taken c).In-Renamed in
+pub returns-in-Renamed : goal.returns-in-Renamed
+returns-in-Renamed c =
+    let m = told_renamed (goal.at.returns-in-Renamed c).In-Renamed in
     record {
       onward =
           λ l w rs h.
           taken-rename h c.if-r-eq0.false m.0 m.1 c.revalue.ensures m.2;
     }
 
-pub returns-in-Here-clause-taken : goal.returns-in-Here-clause-taken
-returns-in-Here-clause-taken c =
-    let m = told_here (goal.at.returns-in-Here-clause-taken c).In-Here in
+pub returns-in-Here : goal.returns-in-Here
+returns-in-Here c =
+    let m = told_here (goal.at.returns-in-Here c).In-Here in
     let k = c.upto-k.ensures in
     record {
       onward =
           λ l w rs h.
-          taken_made h c.if-r-eq0.false m.0 m.2 c.parent_of-q.ensures k.went k.there.0 k.there.1 m.1
-          c.run_rows-run.ensures m.3 c.row_behind-behind.ensures m.4 c.bring.ensures.brought;
+          taken_made h c.if-r-eq0.false m.0 m.2 c.parent_of-q.ensures k.0 k.1 k.2 m.1
+          c.run_rows-run.ensures m.3 c.row_behind-behind.ensures m.4 c.bring.ensures;
     }

@@ -1,8 +1,11 @@
 -- `pass::tail_step` meets its contract: the open row is closed, or the rows left under it are copied.
 -- Assumes nothing.
+use Prim.Native.Nat.{◌-◌}
 use native.Mathlib.Omega.{arith}
 use Rattle.std.proofs.lemmas.Bool.Decides.{nat_tests}
-use Rattle.pass.proofs.AtOnce.{parent-ends, can_copy, copied, copied-kept, copied_less, can_close_it, closed, closed-kept, closed_less}
+use Rattle.pass_moves.specs.Written.{out}
+use Rattle.plan.specs.Table.{table}
+use Rattle.pass.proofs.AtOnce.{sized-is, parent-ends, can_copy, copied, copied-kept, copied_less, can_close_it, closed, closed-kept, closed_less}
 use Rattle.pass.proofs.tail_step.Goals as goal
 
 pub end-e-requires : goal.end-e-requires
@@ -13,10 +16,11 @@ pub close-requires : goal.close-requires
 close-requires c =
     can_close_it c.requires.0.underway c.requires.1 (grind (arith, nat_tests))
 
-pub returns-then-eq-clause-copied : goal.returns-then-eq-clause-copied
-returns-then-eq-clause-copied c =
+pub returns-then-eq : goal.returns-then-eq
+returns-then-eq c =
     let k = c.close.ensures.result_value in
-    let u = c.close.ensures.sized in
+    let x = table c.args.ndist.now c.args.nsize.now c.args.nvalue.now in
+    let u = sized-is x c.args.c.under.0 (out c.args.c - c.args.c.under.0) c.close.ensures.nsize_after in
     let a = closed-kept c.requires.0.underway c.requires.1 (grind (arith, nat_tests)) u k in (
       record {
         still = λ i l w U. closed U c.requires.1 (grind (arith, nat_tests)) u k;
@@ -32,8 +36,8 @@ stretch-requires c =
     let e = c.end-e.ensures in
     can_copy c.requires.0.underway e
 
-pub returns-clause-copied : goal.returns-clause-copied
-returns-clause-copied c =
+pub returns : goal.returns
+returns c =
     let e = c.end-e.ensures in
     let k = c.stretch.ensures in
     let a = copied-kept c.requires.0.underway e (grind (arith, nat_tests)) k.fact k.result_value in (

@@ -1,25 +1,26 @@
 -- `pass_way::upto` meets its contract. The loop's invariant: the pass has moved from where it was. Each step brings it
 -- nearer to the end.
 -- Assumes nothing.
-use Rattle.std.proofs.Common.{rules}
 use Rattle.pass_way.proofs.Chain.{away, arrived, went-none, went_trans, readied_on}
 use Rattle.pass_way.proofs.upto.Goals as goal
 
 pub loop-p-init : goal.loop-p-init
-loop-p-init c = record { went = went-none; same = search rules }
+loop-p-init c = went-none
 
 pub step-c-requires : goal.step-c-requires
 step-c-requires c = (
-  readied_on c.requires c.loop-p.invariant.went,
+  readied_on c.requires c.loop-p.invariant,
   away _ _ _ _ c.loop-p-test.true c.elsewhere.ensures,
 )
 
 pub loop-p-smaller : goal.loop-p-smaller
-loop-p-smaller c = c.step-c.ensures.went.1
+loop-p-smaller c = c.step-c.ensures.1
 
 pub loop-p-preserved : goal.loop-p-preserved
 loop-p-preserved c =
-    record { went = went_trans c.loop-p.invariant.went c.step-c.ensures.went.0; same = search rules }
+    went_trans c.loop-p.invariant c.step-c.ensures.0
 
-pub returns-clause-there : goal.returns-clause-there
-returns-clause-there c = arrived _ _ _ _ c.loop-p-test.false c.elsewhere.ensures
+pub returns : goal.returns
+returns c =
+    let there = arrived _ _ _ _ c.loop-p-test.false c.elsewhere.ensures in
+    (c.loop-p.invariant, there.0, there.1)

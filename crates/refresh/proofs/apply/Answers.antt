@@ -1,6 +1,5 @@
 -- `refresh::apply` meets its contract: the test that fails decides, or the pass writes the new table.
 use native.Mathlib.Omega.{arith}
-use Rattle.std.proofs.Common.{rules}
 use Rattle.std.proofs.lemmas.Result.{err_from_is_err_and}
 use Rattle.refresh.proofs.Settling.{done_refused, value_there, can_begin, begun, done_written}
 use Rattle.refresh.proofs.apply.Goals as goal
@@ -18,10 +17,8 @@ begin-c-requires g c = can_begin _ _ _ _ c.in_ok-test_all.ensures
 
 pub loop-j-init : goal.loop-j-init
 loop-j-init g c =
-    let all = c.in_ok-test_all.ensures in
-    record { underway = begun _ _ _ _ all c.begin-c.ensures.value c.begin-c.ensures.wrote; same = search rules }
+    begun _ _ _ _ c.in_ok-test_all.ensures c.begin-c.ensures.value c.begin-c.ensures.v_after
 
 pub returns : goal.returns
 returns g c =
-    done_written _ _ _ _ c.in_ok-test_all.ensures _ (omega arith) c.loop-j.invariant.underway
-    c.finish-rows.ensures.finished (search rules)
+    done_written _ _ _ _ c.in_ok-test_all.ensures _ (omega arith) c.loop-j.invariant c.finish-rows.ensures

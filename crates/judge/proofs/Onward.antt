@@ -248,9 +248,7 @@ module _ {t i : Table} {l : List Record} {b : Option Record} {s : Stand} {k : �
   row_inside = way_inside t i (h.done ++ []) passing_all s (length h.done) [] way_all
 
   -- test 9 of that many rows is the judgement
-  pub published-rows : {o r : ℕ} {a : Judgement} → o ≡ s.out.0 → r ≡ s.row.0
-      → let n = o + (length t.size - r) in
+  pub published-rows : {a : Judgement} → let n = s.out.0 + (length t.size - s.row.0) in
       a ≡ judgement (test (leb n most_rows) 9 0 n) n → a ≡ published_of (even t && even i) t i l
-  published-rows {o} {r} e q w =
-      let z : o + (length t.size - r) ≡ count (result t i l) = omega (arith, balance) in
-      rw (judged-left h, tested-none (plan old t) i k b, ← z) w
+  published-rows w =
+      rw (judged-left h, tested-none (plan old t) i k b, ← balance) w

@@ -49,9 +49,6 @@ product_some : (a b p : ℕ) → p ≡ a * b → (p ≡ 0 → ⊥) → 1 ≤ b
 product_some a zero p e h = absurd (h (omega arith))
 product_some a (suc b) p e h = omega arith
 
-pub product_same : (x y a b : ℕ) → x ≡ a → y ≡ b → x * y ≡ a * b
-product_same x y a b e f = cc
-
 -- a turn of the loop, at row r, whose distance leads to q
 pub adding_next : (D S : List ℕ) (r q x p : ℕ) → q < r → r < 65535 → q + cell D r ≡ r → cell S r < 4294967296
     → (cell D r + cell S r) % 2 ^ 32 ≤ cell S q → p ≡ cell D r * cell S r → (p ≡ 0 → ⊥)

@@ -10,41 +10,39 @@ use Rattle.plan.proofs.Tests.{reply-passed, reply_failed, whole_small, whole-pas
 use Rattle.plan.specs.Told.{start_told}
 use Rattle.table.proofs.Told.{RowIn, TopIn, ParentIn}
 
--- ---- a row x of columns of one length, with the distance d
-module _ (t : Table) (r x d : ℕ) (w : RowIn t r x) (h : d ≡ cell t.dist x) where
-  here : cell t.dist r ≡ d
-  here = sym (h ∙ ap (cell t.dist) w.same)
+-- ---- a row x of columns of one length
+module _ (t : Table) (r x : ℕ) (w : RowIn t r x) where
+  here : cell t.dist r ≡ cell t.dist x
+  here = sym (ap (cell t.dist) w.same)
 
   pub parent-is-none : x ≡ 0 → nothing ≡ parent t r
   parent-is-none z = sym (parent-root t r w.tests (omega (arith, w.same)))
 
-  pub parent_too_near : (x ≡ 0 → ⊥) → d ≡ 0 → refuse 12 r ≡ parent t r
+  pub parent_too_near : (x ≡ 0 → ⊥) → cell t.dist x ≡ 0 → refuse 12 r ≡ parent t r
   parent_too_near n z = sym (parent_small t r w.tests (omega (arith, w.same)) (here ∙ z))
 
-  pub parent_too_far : (x ≡ 0 → ⊥) → x < d → refuse 12 r ≡ parent t r
+  pub parent_too_far : (x ≡ 0 → ⊥) → x < cell t.dist x → refuse 12 r ≡ parent t r
   parent_too_far n l =
       sym (parent-past t r w.tests (omega (arith, w.same)) (omega (arith, w.same, here)))
 
-  pub parent_is : (x ≡ 0 → ⊥) → (d ≡ 0 → ⊥) → d ≤ x → row (x - d) ≡ parent t r
+  pub parent_is : (x ≡ 0 → ⊥) → (cell t.dist x ≡ 0 → ⊥) → cell t.dist x ≤ x → row (x - cell t.dist x) ≡ parent t r
   parent_is n z l =
-      sym (parent_of t r (x - d) w.tests (omega (arith, w.same)) (omega (arith, w.same, here)))
+      sym (parent_of t r (x - cell t.dist x) w.tests (omega (arith, w.same)) (omega (arith, w.same, here)))
 
--- ---- with the size s
-module _ (t : Table) (r x s : ℕ) (w : RowIn t r x) (h : s ≡ cell t.size x) where
-  size-here : cell t.size r ≡ s
-  size-here = sym (h ∙ ap (cell t.size) w.same)
+  size-here : cell t.size r ≡ cell t.size x
+  size-here = sym (ap (cell t.size) w.same)
 
-  pub top_small : s ≡ 0 → refuse 12 r ≡ subtree_top t r
+  pub top_small : cell t.size x ≡ 0 → refuse 12 r ≡ subtree_top t r
   unfolding subtree_top
   top_small z = reply_failed _ _ 12 r 0 (whole_small t r w.tests (size-here ∙ z))
 
-  pub top-past : length t.size - x < s → refuse 12 r ≡ subtree_top t r
+  pub top-past : length t.size - x < cell t.size x → refuse 12 r ≡ subtree_top t r
   unfolding subtree_top
   top-past l =
       reply_failed _ _ 12 r 0
       (whole-past t r w.tests (omega (arith, w.same, w.within, size-here)))
 
-  pub top-is : (s ≡ 0 → ⊥) → s ≤ length t.size - x → row x ≡ subtree_top t r
+  pub top-is : (cell t.size x ≡ 0 → ⊥) → cell t.size x ≤ length t.size - x → row x ≡ subtree_top t r
   unfolding subtree_top
   top-is some fits =
       ap row w.same
@@ -52,64 +50,56 @@ module _ (t : Table) (r x s : ℕ) (w : RowIn t r x) (h : s ≡ cell t.size x) w
       (whole_of t r w.tests (omega (arith, size-here)) (omega (arith, w.same, w.within, size-here)))
 
 -- ---- where the subtree lies in the table
-module _ (t : Table) (r x s : ℕ) (w : TopIn t r x) (h : s ≡ cell t.size x) where
-  top-here : cell t.size r ≡ s
-  top-here = size-here t r x s w.row_in h
+module _ (t : Table) (r x : ℕ) (w : TopIn t r x) where
+  top-here : cell t.size r ≡ cell t.size x
+  top-here = size-here t r x w.row_in
 
-  pub top-ends : x + s ≤ length t.size
+  pub top-ends : x + cell t.size x ≤ length t.size
   top-ends = omega (arith, w.fits, w.row_in.same, top-here)
 
-  pub child-is-none : s < 2 → nothing ≡ first_child t r
+  pub child-is-none : cell t.size x < 2 → nothing ≡ first_child t r
   unfolding first_child
-  child-is-none l = rw (w.tests, top-here, lt-leb 2 s l)
+  child-is-none l = rw (w.tests, top-here, lt-leb 2 _ l)
 
-  pub child-is : 2 ≤ s → row (x + 1) ≡ first_child t r
+  pub child-is : 2 ≤ cell t.size x → row (x + 1) ≡ first_child t r
   unfolding first_child
-  child-is l = rw (w.tests, top-here, le-leb 2 s l, w.row_in.same)
+  child-is l = rw (w.tests, top-here, le-leb 2 _ l, w.row_in.same)
 
-  pub part-is : (e : ℕ) → e ≡ x + s → take (e - x) (drop x t.value) ≡ subtree t r
+  pub part-is : (e : ℕ) → e ≡ x + cell t.size x → take (e - x) (drop x t.value) ≡ subtree t r
   unfolding subtree
   part-is e i =
-      let j : e - x ≡ s = omega arith in
+      let j : e - x ≡ cell t.size x = omega arith in
       rw (w.tests, top-here, j, w.row_in.same)
 
-  pub start_is : start_told (Ok (record { top = x; next = x + 1; end = x + s })) ≡ walk_start t r
+  pub start_is : start_told (Ok (record { top = x; next = x + 1; end = x + cell t.size x })) ≡ walk_start t r
   unfolding walk_start
   start_is = rw (w.tests, top-here, w.row_in.same)
 
--- ---- with a parent q of the size z
-module _ (t : Table) (r x q s z : ℕ) (w : ParentIn t r q) (i : x ≡ r) (hs : s ≡ cell t.size x)
-    (hz : z ≡ cell t.size q) where
-  own : s ≡ cell t.size r
-  own = hs ∙ ap (cell t.size) i
-
-  end_of : q + z ≡ q + cell t.size q
-  end_of = ap (λ (k : ℕ). q + k) hz
-
+-- ---- with a parent q: the row has the size s, and the parent ends before e
+module _ (t : Table) (r q s e : ℕ) (w : ParentIn t r q) (own : s ≡ cell t.size r) (end_of : e ≡ q + cell t.size q) where
   pub sibling_empty : s ≡ 0 → refuse 12 r ≡ next_sibling t r
-  sibling_empty n = sym (sibling_small t r q s (q + z) w.is own end_of n)
+  sibling_empty n = sym (sibling_small t r q s e w.is own end_of n)
 
   module _ (some : s ≡ 0 → ⊥) where
-    pub sibling_too_long : length t.size < q + z → refuse 12 r ≡ next_sibling t r
-    sibling_too_long l = sym (sibling_long t r q s (q + z) w.is own end_of (omega arith) l)
+    pub sibling_too_long : length t.size < e → refuse 12 r ≡ next_sibling t r
+    sibling_too_long l = sym (sibling_long t r q s e w.is own end_of (omega arith) l)
 
-    pub sibling_too_far : q + z ≤ length t.size → q + z < x + s → refuse 12 r ≡ next_sibling t r
+    pub sibling_too_far : e ≤ length t.size → e < r + s → refuse 12 r ≡ next_sibling t r
     sibling_too_far l p =
-        sym (sibling_past t r q s (q + z) w.is own end_of (omega arith) l (omega arith))
+        sym (sibling_past t r q s e w.is own end_of (omega arith) l (omega arith))
 
-    pub sibling_is_none : q + z ≤ length t.size → x + s ≡ q + z → nothing ≡ next_sibling t r
+    pub sibling_is_none : e ≤ length t.size → r + s ≡ e → nothing ≡ next_sibling t r
     sibling_is_none l p =
         rw (
-          sibling_of t r q s (q + z) w.is own end_of (omega arith) l (omega arith),
-          le-ltb (r + s) (q + z) (omega arith),
+          sibling_of t r q s e w.is own end_of (omega arith) l (omega arith),
+          le-ltb (r + s) e (omega arith),
         )
 
-    pub sibling_is : q + z ≤ length t.size → x + s ≤ q + z → (x + s ≡ q + z → ⊥) → row (x + s) ≡ next_sibling t r
+    pub sibling_is : e ≤ length t.size → r + s ≤ e → (r + s ≡ e → ⊥) → row (r + s) ≡ next_sibling t r
     sibling_is l p n =
         rw (
-          sibling_of t r q s (q + z) w.is own end_of (omega arith) l (omega arith),
-          lt-ltb (r + s) (q + z) (omega arith),
-          i,
+          sibling_of t r q s e w.is own end_of (omega arith) l (omega arith),
+          lt-ltb (r + s) e (omega arith),
         )
 
 -- ---- a candidate c of the size s, in a walk that ends at e

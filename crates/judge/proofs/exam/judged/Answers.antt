@@ -1,5 +1,4 @@
 -- `judge::exam::judged` meets its contract: the record fails a test, or passes and leaves the rows where it does.
-use Rattle.std.proofs.Common.{refl}
 use native.Mathlib.Omega.{arith}
 use native.Mathlib.Numerals.{add-one}
 use Rattle.std.proofs.lemmas.Result.{err_from_is_err_and}
@@ -39,5 +38,5 @@ overflow_sub-t g c = omega (arith, row_inside (none_left c.loop-j.invariant (ome
 
 pub returns : goal.returns
 returns g c =
-    published-rows (none_left c.loop-j.invariant (omega arith)) refl refl
+    published-rows (none_left c.loop-j.invariant (omega arith))
     c.test_rows.ensures

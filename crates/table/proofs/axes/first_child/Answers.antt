@@ -1,5 +1,4 @@
 -- `table::axes::first_child` meets its contract.
-use Rattle.std.proofs.Common.{refl}
 use Rattle.plan.specs.Told.{reply_told}
 use Rattle.table.proofs.Told.{handed_on, top-told, child_handed}
 use Rattle.table.proofs.Replies.{child-is-none, child-is}
@@ -9,7 +8,7 @@ pub returns-in_err-x : goal.returns-in_err-x
 returns-in_err-x c = handed_on reply_told _ c.from_residual.ensures.1 (child_handed _ _ _ c.in_err-x.ensures)
 
 pub returns-then-t-x-lt2 : goal.returns-then-t-x-lt2
-returns-then-t-x-lt2 c = child-is-none _ _ _ _ (top-told _ _ _ c.in_ok-x.ensures) refl c.if-t-x-lt2.true
+returns-then-t-x-lt2 c = child-is-none _ _ _ (top-told _ _ _ c.in_ok-x.ensures) c.if-t-x-lt2.true
 
 pub returns : goal.returns
-returns c = child-is _ _ _ _ (top-told _ _ _ c.in_ok-x.ensures) refl c.if-t-x-lt2.false
+returns c = child-is _ _ _ (top-told _ _ _ c.in_ok-x.ensures) c.if-t-x-lt2.false

@@ -29,19 +29,19 @@ pub returns-then-s-eq0 : goal.returns-then-s-eq0
 returns-then-s-eq0 c =
     let found = parent-told _ _ _ _ c.in_ok-q.ensures c.in-Some.is in
     elim c.then-s-eq0.branch [
-      | then-s-eq0-via-then-s-eq0 w ↦ sibling_empty _ _ _ _ _ _ found refl refl refl w.if-s-eq0.true
+      | then-s-eq0-via-then-s-eq0 w ↦ sibling_empty _ _ _ _ _ found refl refl w.if-s-eq0.true
       | then-s-eq0-via-else-s-eq0+then-e-t w ↦
-          sibling_too_long _ _ _ _ _ _ found refl refl refl w.if-s-eq0.false w.if-e-t.true
+          sibling_too_long _ _ _ _ _ found refl refl w.if-s-eq0.false w.if-e-t.true
       | then-s-eq0-via-else-s-eq0+else-e-t+then-b-e w ↦
-          sibling_too_far _ _ _ _ _ _ found refl refl refl w.if-s-eq0.false w.if-e-t.false w.if-b-e.true
+          sibling_too_far _ _ _ _ _ found refl refl w.if-s-eq0.false w.if-e-t.false w.if-b-e.true
     ]
 
 pub returns-then-b-e-2 : goal.returns-then-b-e-2
 returns-then-b-e-2 c =
-    sibling_is_none _ _ _ _ _ _ (parent-told _ _ _ _ c.in_ok-q.ensures c.in-Some.is)
-    refl refl refl c.if-s-eq0.false c.if-e-t.false c.if-b-e-2.true
+    sibling_is_none _ _ _ _ _ (parent-told _ _ _ _ c.in_ok-q.ensures c.in-Some.is)
+    refl refl c.if-s-eq0.false c.if-e-t.false c.if-b-e-2.true
 
 pub returns : goal.returns
 returns c =
-    sibling_is _ _ _ _ _ _ (parent-told _ _ _ _ c.in_ok-q.ensures c.in-Some.is)
-    refl refl refl c.if-s-eq0.false c.if-e-t.false c.if-b-e.false c.if-b-e-2.false
+    sibling_is _ _ _ _ _ (parent-told _ _ _ _ c.in_ok-q.ensures c.in-Some.is)
+    refl refl c.if-s-eq0.false c.if-e-t.false c.if-b-e.false c.if-b-e-2.false

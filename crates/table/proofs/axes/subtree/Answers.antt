@@ -15,7 +15,7 @@ offset_bounds-value-x c =
 pub slice_bounds-result-end-2 : goal.slice_bounds-result-end-2
 slice_bounds-result-end-2 c =
     let found = top-told _ _ _ c.in-Ok.ensures in
-    omega (arith, top-ends _ _ _ _ found refl, found.row_in.value-length)
+    omega (arith, top-ends _ _ _ found, found.row_in.value-length)
 
 pub returns : goal.returns
-returns c = part-is _ _ _ _ (top-told _ _ _ c.in-Ok.ensures) refl _ refl
+returns c = part-is _ _ _ (top-told _ _ _ c.in-Ok.ensures) _ refl

@@ -1,5 +1,7 @@
 // The small moves of the pass: rows are copied, values are written ahead, a row is closed. Each says what the new
 // columns hold then. In the contracts t is the table that rows are taken from, u the new columns before, and v after.
+// Here and in the pass the new columns are three parameters: with a struct of them paths took longer than before, and
+// longer than by the plain way of docs/BENCHMARKS.md.
 #![tactic(auto)]
 
 ghost use Rattle.std.specs.Prelude.{◌≡◌, ◌+◌, ◌-◌, ◌<◌, ◌≤◌, length, get_or, set, drop};

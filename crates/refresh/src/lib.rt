@@ -1,6 +1,6 @@
 // The bulk call and the single call over plain columns: judged by the published tests, and written in one pass.
 // Accepted, the first rows of the new columns are the new table, and the rows behind stay. Refused, nothing is written.
-// In the contracts u are the new columns before, and w after.
+// In the contracts u are the new columns before, and w after. They stay three parameters, as in the pass.
 #![tactic(auto)]
 
 ghost use Rattle.std.specs.Prelude.{◌≡◌, true, [], ◌∷◌};

@@ -31,7 +31,11 @@ pub fn run_rows(isize: &[u32], r: Record) -> u32
     requires { T (has_run r) → r.from < length isize.now }
     ensures { result ≡ brought isize.now r }
 {
-    if has_run(r) { isize[r.from as usize] } else { 0 }
+    if has_run(r) {
+        isize[r.from as usize]
+    } else {
+        0
+    }
 }
 
 // The old row at which the rows go on behind it.

@@ -82,8 +82,8 @@ pub fn next_sibling(t: Table, r: u32) -> Result<Option<usize>, RowRefusal>
     Ok(Some(b))
 }
 
-// The values of the subtree of row r, as that part of the lent column itself; the empty part where refused. Three columns
-// and no Table: only the values have to live as long as the part.
+// The values of the subtree of row r, as that part of the lent column itself; the empty part where refused. Three
+// columns and no Table: only the values have to live as long as the part.
 #[tactic(auto, using(crate::proofs::Told::top_within))]
 pub fn subtree<'a>(dist: &[u32], size: &[u32], value: &'a [u32], r: u32) -> &'a [u32]
     ensures { result.now ≡ values_of (table dist.now size.now value.now) r }

@@ -1,4 +1,4 @@
-// The archive for C and for Rust: each call of `plan_c` under its name in `include/plan.h`, with the call's own clauses.
+// The archive for C and for Rust: each call of `plan_c` under its name in `include/plan.h`, with its own clauses.
 #![tactic(auto)]
 
 ghost use Rattle.std.specs.Prelude.{◌≡◌, true, [], ◌∷◌, length};

@@ -1,5 +1,5 @@
-// The calls for C and for Rust, as `include/plan.h` declares them. Each puts the lent columns side by side, hands them to
-// the library, and hands its answer back as plain numbers. A list is lent as a slice of records.
+// The calls for C and for Rust, as `include/plan.h` declares them. Each puts the lent columns side by side, hands them
+// to the library, and hands its answer back as plain numbers. A list is lent as a slice of records.
 // C lends column by column, so the parameters stay single.
 #![tactic(auto)]
 

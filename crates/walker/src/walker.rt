@@ -23,8 +23,8 @@ pub struct Started<'a> {
 }
 
 impl<'a> Walker<'a> {
-    // The walk over the children of row r, at its start. Three columns and no Table: only the sizes have to live as long
-    // as the walker.
+    // The walk over the children of row r, at its start. Three columns and no Table: only the sizes have to live as
+    // long as the walker.
     pub fn new(dist: &[u32], size: &'a [u32], value: &[u32], r: u32) -> Started<'a>
         ensures { Starts result dist.now size.entry value.now r }
     {

@@ -58,22 +58,24 @@ pub fn meet(s: Stand, r: Record, end: OldPre, run: u32) -> Meeting
     }
     if r.kind == Record::RENAME {
         return Meeting::Renamed(Stand {
-            row: s.row,
-            out: s.out,
-            ..Stand::start()
+            first: OldPre(0),
+            end: OldPre(0),
+            ..s
         });
     }
-    let first = OldPre(r.location);
-    let mut next = Stand {
-        row: end,
-        out: NewPre(s.out.0 + (first.0 - s.row.0) + run),
-        ..Stand::start()
+    let p = r.location;
+    let (first, last) = if removes_rows(r) {
+        (OldPre(p), end)
+    } else {
+        (OldPre(0), OldPre(0))
     };
-    if removes_rows(r) {
-        next.first = first;
-        next.end = end;
-    }
-    Meeting::Here(first, run, next)
+    let next = Stand {
+        row: end,
+        out: NewPre(s.out.0 + (p - s.row.0) + run),
+        first,
+        end: last,
+    };
+    Meeting::Here(OldPre(p), run, next)
 }
 
 // Where the rows go on behind the record.

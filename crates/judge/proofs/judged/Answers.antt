@@ -7,6 +7,3 @@ pub returns-in_err-level : goal.returns-in_err-level
 returns-in_err-level c =
     let p = err_from_is_err_and c.from_residual.result c.from_residual.ensures.1 in
     rw (p.1, p.2) (uneven-list _ _ _ c.in_err-level.ensures)
-
-pub returns : goal.returns
-returns c = rw (c.in_ok-level.ensures.1, ← c.in_ok-level.ensures.0) c.judged.ensures

@@ -7,11 +7,6 @@ use Rattle.table.proofs.axes.subtree.Goals as goal
 pub returns-in_default : goal.returns-in_default
 returns-in_default c = part_handed _ _ _ c.in_default.ensures
 
-pub offset_bounds-value-x : goal.offset_bounds-value-x
-offset_bounds-value-x c =
-    let found = (top-told _ _ _ c.in-Ok.ensures).row_in in
-    omega (arith, found.within, found.value-length)
-
 pub slice_bounds-result-end-2 : goal.slice_bounds-result-end-2
 slice_bounds-result-end-2 c =
     let found = top-told _ _ _ c.in-Ok.ensures in

@@ -42,10 +42,6 @@ returns-then-lt c =
     went_all c.requires.1 c.end-e.ensures (grind (arith, nat_tests)) c.nearer.ensures k.fact k.result_value
     (grind (arith, nat_tests)) c.requires.0
 
-pub overflow_sub-result-2 : goal.overflow_sub-result-2
-overflow_sub-result-2 c =
-    omega (arith, (some_rows (goal.at.overflow_sub-result-2 c).Else-lt).1)
-
 pub overflow_sub-result : goal.overflow_sub-result
 overflow_sub-result c =
     omega (arith, (some_rows (goal.at.overflow_sub-result c).Else-lt).0)

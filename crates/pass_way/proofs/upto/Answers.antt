@@ -1,7 +1,7 @@
 -- `pass_way::upto` meets its contract. The loop's invariant: the pass has moved from where it was. Each step brings it
 -- nearer to the end.
 -- Assumes nothing.
-use Rattle.pass_way.proofs.Chain.{away, arrived, went-none, went_trans, readied_on}
+use Rattle.pass_way.proofs.Chain.{away, went-none, went_trans, readied_on}
 use Rattle.pass_way.proofs.upto.Goals as goal
 
 pub loop-p-init : goal.loop-p-init
@@ -13,14 +13,6 @@ step-c-requires c = (
   away _ _ _ _ c.loop-p-test.true c.elsewhere.ensures,
 )
 
-pub loop-p-smaller : goal.loop-p-smaller
-loop-p-smaller c = c.step-c.ensures.1
-
 pub loop-p-preserved : goal.loop-p-preserved
 loop-p-preserved c =
     went_trans c.loop-p.invariant c.step-c.ensures.0
-
-pub returns : goal.returns
-returns c =
-    let there = arrived _ _ _ _ c.loop-p-test.false c.elsewhere.ensures in
-    (c.loop-p.invariant, there.0, there.1)

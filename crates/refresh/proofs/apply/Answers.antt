@@ -1,13 +1,7 @@
 -- `refresh::apply` meets its contract: the test that fails decides, or the pass writes the new table.
 use native.Mathlib.Omega.{arith}
-use Rattle.std.proofs.lemmas.Result.{err_from_is_err_and}
-use Rattle.refresh.proofs.Settling.{done_refused, value_there, can_begin, begun, done_written}
+use Rattle.refresh.proofs.Settling.{value_there, can_begin, begun, done_written}
 use Rattle.refresh.proofs.apply.Goals as goal
-
-pub returns-in_err-test_all : goal.returns-in_err-test_all
-returns-in_err-test_all g c =
-    let p = err_from_is_err_and c.from_residual.result c.from_residual.ensures.1 in
-    rw (p.1, p.2) (done_refused _ _ _ _ _ _ c.in_err-test_all.ensures)
 
 pub bounds-t-0 : goal.bounds-t-0
 bounds-t-0 g c = value_there _ _ _ _ c.in_ok-test_all.ensures

@@ -8,7 +8,6 @@ use lib.ListN.{length, take, drop, set, replicate, length-set, length-drop, leng
 use lib.Seq.{length-take-le}
 use borrow.Rule.Slice.PartMut.{put_mid}
 use Rattle.std.proofs.Math.Seq.{take-suc-set}
-use Rattle.std.proofs.lemmas.List.{take_all}
 use Rattle.along.specs.Rising.{rising}
 
 -- ---- counted up
@@ -28,9 +27,6 @@ module _ (u : List ℕ) (k x : ℕ) (h : take x u ≡ rising x k) where
   rising-on l =
       let on : x + 1 ≡ suc x = omega arith in
       rw (on, rising-more x k, take-suc-set) (ap (λ (ns : List ℕ). ns ++ ((k + x) ∷ [])) h)
-
-  pub rising-whole : (n : ℕ) → length u ≡ n → x ≡ n → u ≡ rising n k
-  rising-whole n e f = rw f at (sym (take_all x u (omega arith)) ∙ h)
 
 -- ---- laid over a column
 -- the column u with the numbers xs in it, from row a on

@@ -127,9 +127,6 @@ module _ {t i : Table} {l : List Record} {w u : Table} {c : Cursor} (U : Underwa
     some : 0 < out c
     some = omega (arith, U.stands.behind)
 
-    pub root-there : 0 < length u.size
-    root-there = omega (arith, some, U.stands.room.size)
-
     here : state_of u c [] ≡ state (length t.size) (out c) 0 0 (first_rows (out c) u) []
     here = as_state u c [] ∙ state_eq kr refl kp (line-root U.stands.line kp) refl
 

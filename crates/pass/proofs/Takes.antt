@@ -4,7 +4,7 @@ use Prim.Native.Nat.{ℕ, suc, ◌+◌, ◌-◌, ◌≤◌, ◌<◌}
 use native.Mathlib.Omega.{arith}
 use native.Mathlib.Nat.{add-zero}
 use mathlib.Core.Path.{◌≡◌, refl, sym, ap, ◌∙◌, subst}
-use mathlib.Core.Bool.{Bool, true, false, cond}
+use mathlib.Core.Bool.{true, false, cond}
 use mathlib.Core.List.{List, ◌∷◌}
 use lib.Dec.{T}
 use lib.ListN.{length}
@@ -101,9 +101,6 @@ module _ (i u : Table) (c : Cursor) (r : Record) (n : ℕ) where
       → v ≡ with_run i u c r n
   unfolding with_run
   a_run h e = rw h e
-
-pub run_is : {b : Bool} → b ≡ true → T b
-run_is e = subst T (sym e) tt
 
 -- ---- whether it brings a run, and takes rows away, by its kind
 module _ (r : Record) where

@@ -3,7 +3,7 @@
 use Rattle.std.proofs.Common.{◌≡◌, ℕ, ◌+◌, ◌<◌, List, length, sym, ap, subst, arith}
 use Rattle.plan.specs.Axes.{cell}
 use Rattle.plan.proofs.Kit.{by_place}
-use Rattle.table.specs.Rows.{Open, Inner, Fine, Row, Rows, Rooted, Ready}
+use Rattle.table.specs.Rows.{Open, Inner, Fine, Row, Rows, Ready}
 
 -- row x, which ends at r, has a parent q, which is open at r too
 pub record Up (s d : ℕ → ℕ) (r x : ℕ) : Type 0 where
@@ -62,19 +62,6 @@ module _ (s d : ℕ → ℕ) where
   pub next_open : (r x : ℕ) → Fine s d r x → Open s (r + 1) r
   next_open r x f =
       record { before = omega arith; reach = omega (arith, f.some); closed = λ z u v. absurd (omega arith) }
-
--- at row 1 only the root is behind
-pub root-rows : (D S : List ℕ) → Rooted D S → Rows (cell S) (cell D) (length S) 1
-root-rows D S g =
-    record { root-dist = g.root-dist; root-size = g.root-size; row = λ z u v. absurd (omega arith) }
-
-pub root_open : (D S : List ℕ) → Rooted D S → Open (cell S) 1 0
-root_open D S g =
-    record {
-      before = omega arith;
-      reach = omega (arith, g.root-size, g.some);
-      closed = λ z u v. absurd (omega arith);
-    }
 
 pub open_at : (s : ℕ → ℕ) (r x y : ℕ) → x ≡ y → Open s r x → Open s r y
 open_at s r x y e o = subst (λ (z : ℕ). Open s r z) e o

@@ -5,10 +5,19 @@ ghost use Rattle.std.specs.Prelude.{◌≤◌};
 
 use judge::judged;
 use out::{heading, worked};
+use plan::Record;
 use plan::lent::{Changes, Table};
 use std::io;
 
 const LAST: u32 = u32::MAX;
+
+const DELETE: u32 = Record::DELETE;
+
+const INSERT: u32 = Record::INSERT;
+
+const RENAME: u32 = Record::RENAME;
+
+const REPLACE: u32 = Record::REPLACE;
 
 // The judgement of a list on a table, after its name.
 fn case(rt: &impl Print, name: &str, t: Table, l: Changes, i: Table) -> io::Result<()> {
@@ -56,10 +65,10 @@ fn accepted(rt: &impl Print) -> io::Result<()> {
 // Those that are refused.
 fn refused(rt: &impl Print) -> io::Result<()> {
     on_t(rt, "C", worked::C)?;
-    list(rt, "E", [[1, 4, 0, 0, 0], [2, 4, 0, 2, 0]])?;
-    list(rt, "F", [[3, 4, 0, 0, 9], [1, 4, 0, 0, 0]])?;
-    list(rt, "G", [[1, 0, 0, 0, 0]])?;
-    list(rt, "H", [[2, 5, 0, 2, 0]])
+    list(rt, "E", [[DELETE, 4, 0, 0, 0], [INSERT, 4, 0, 2, 0]])?;
+    list(rt, "F", [[RENAME, 4, 0, 0, 9], [DELETE, 4, 0, 0, 0]])?;
+    list(rt, "G", [[DELETE, 0, 0, 0, 0]])?;
+    list(rt, "H", [[INSERT, 5, 0, 2, 0]])
 }
 
 // Test 4.
@@ -75,20 +84,20 @@ fn kinds(rt: &impl Print) -> io::Result<()> {
 
 // Test 5.
 fn places(rt: &impl Print) -> io::Result<()> {
-    list(rt, "delete the last row", [[1, 6, 0, 0, 0]])?;
-    list(rt, "delete at n", [[1, 7, 0, 0, 0]])?;
-    list(rt, "rename at n", [[3, 7, 0, 0, 0]])?;
-    list(rt, "replace 0", [[4, 0, 0, 0, 0]])
+    list(rt, "delete the last row", [[DELETE, 6, 0, 0, 0]])?;
+    list(rt, "delete at n", [[DELETE, 7, 0, 0, 0]])?;
+    list(rt, "rename at n", [[RENAME, 7, 0, 0, 0]])?;
+    list(rt, "replace 0", [[REPLACE, 0, 0, 0, 0]])
 }
 
 fn far_places(rt: &impl Print) -> io::Result<()> {
-    list(rt, "delete at 4294967295", [[1, LAST, 0, 0, 0]])?;
-    list(rt, "insert at 4294967295", [[2, LAST, 0, 0, 0]])?;
-    list(rt, "insert under 4294967295", [[2, 6, LAST, 0, 0]])?;
+    list(rt, "delete at 4294967295", [[DELETE, LAST, 0, 0, 0]])?;
+    list(rt, "insert at 4294967295", [[INSERT, LAST, 0, 0, 0]])?;
+    list(rt, "insert under 4294967295", [[INSERT, 6, LAST, 0, 0]])?;
     list(
         rt,
         "delete whose other fields are 4294967295",
-        [[1, 4, LAST, LAST, LAST]],
+        [[DELETE, 4, LAST, LAST, LAST]],
     )
 }
 
@@ -97,17 +106,21 @@ fn firsts(rt: &impl Print) -> io::Result<()> {
     list(
         rt,
         "test 7, and test 4 in a later record",
-        [[2, 6, 0, 0, 0], [2, 6, 4, 2, 0], [0, 6, 0, 0, 0]],
+        [[INSERT, 6, 0, 0, 0], [INSERT, 6, 4, 2, 0], [0, 6, 0, 0, 0]],
     )?;
     list(
         rt,
         "test 5 before test 6",
-        [[1, 1, 0, 0, 0], [2, 5, 0, 3, 0]],
+        [[DELETE, 1, 0, 0, 0], [INSERT, 5, 0, 3, 0]],
     )?;
     list(
         rt,
         "delete, with a vain insert and a vain replace",
-        [[1, 1, 0, 0, 0], [2, 3, 2, 0, 0], [4, 3, 0, 0, 0]],
+        [
+            [DELETE, 1, 0, 0, 0],
+            [INSERT, 3, 2, 0, 0],
+            [REPLACE, 3, 0, 0, 0],
+        ],
     )
 }
 
@@ -119,7 +132,7 @@ fn run(rt: &impl Print, name: &str, dist: [u32; 3], size: [u32; 3], f: u32) -> i
         ..worked::INSERTIONS
     };
     let l = Changes {
-        kind: &[2],
+        kind: &[INSERT],
         location: &[7],
         parent: &[0],
         from: &[f],
@@ -151,7 +164,7 @@ fn chain_of(rt: &impl Print, name: &str, size: [u32; 3], parent: [u32; 3]) -> io
         value: &[1; 3],
     };
     let l = Changes {
-        kind: &[2; 3],
+        kind: &[INSERT; 3],
         location: &[3; 3],
         parent: &parent,
         from: &[2, 2, 0],
@@ -167,9 +180,17 @@ fn chain(rt: &impl Print, name: &str, parent: [u32; 3]) -> io::Result<()> {
 
 // Inserts at location n, under each row of the last line of parents.
 fn ends(rt: &impl Print) -> io::Result<()> {
-    list(rt, "under 6, then 0", [[2, 7, 6, 2, 0], [2, 7, 0, 2, 0]])?;
-    list(rt, "under 0, then 6", [[2, 7, 0, 2, 0], [2, 7, 6, 2, 0]])?;
-    list(rt, "under 1, which ends before", [[2, 7, 1, 2, 0]])
+    list(
+        rt,
+        "under 6, then 0",
+        [[INSERT, 7, 6, 2, 0], [INSERT, 7, 0, 2, 0]],
+    )?;
+    list(
+        rt,
+        "under 0, then 6",
+        [[INSERT, 7, 0, 2, 0], [INSERT, 7, 6, 2, 0]],
+    )?;
+    list(rt, "under 1, which ends before", [[INSERT, 7, 1, 2, 0]])
 }
 
 fn chains(rt: &impl Print) -> io::Result<()> {
@@ -182,7 +203,7 @@ fn chains(rt: &impl Print) -> io::Result<()> {
 // Tests 1 and 2: columns of different length, and an unsound table.
 fn columns(rt: &impl Print) -> io::Result<()> {
     let l = Changes {
-        kind: &[1],
+        kind: &[DELETE],
         location: &[4],
         parent: &[0],
         from: &[0],
@@ -194,8 +215,8 @@ fn columns(rt: &impl Print) -> io::Result<()> {
 
 // Test 3: so many equal inserts.
 fn many(rt: &impl Print) -> io::Result<()> {
-    list(rt, "1024 records", [[2, 7, 0, 2, 0]; 1024])?;
-    list(rt, "1025 records", [[2, 7, 0, 2, 0]; 1025])
+    list(rt, "1024 records", [[INSERT, 7, 0, 2, 0]; 1024])?;
+    list(rt, "1025 records", [[INSERT, 7, 0, 2, 0]; 1025])
 }
 
 // One record on the flat table of 65,535 rows.
@@ -225,9 +246,9 @@ fn flat(rt: &impl Print, name: &str, kind: u32, location: u32) -> io::Result<()>
 }
 
 fn on_flat(rt: &impl Print) -> io::Result<()> {
-    flat(rt, "65535 rows, rename", 3, 65534)?;
-    flat(rt, "65535 rows, insert of one row", 2, 65535)?;
-    flat(rt, "65535 rows, replace by one row", 4, 65534)
+    flat(rt, "65535 rows, rename", RENAME, 65534)?;
+    flat(rt, "65535 rows, insert of one row", INSERT, 65535)?;
+    flat(rt, "65535 rows, replace by one row", REPLACE, 65534)
 }
 
 fn main(rt: HostRuntime) -> io::Result<()> {

@@ -143,12 +143,12 @@ fn main(rt: HostRuntime) -> io::Result<()> {
     short(&rt)?;
     alone(&rt)?;
     heading(&rt, "the flat table of 65,535 rows")?;
-    on_flat(&rt, "rename", &[3], &[65534], &[0])?;
-    on_flat(&rt, "insert of one row", &[2], &[65535], &[0])?;
+    on_flat(&rt, "rename", &[Record::RENAME], &[65534], &[0])?;
+    on_flat(&rt, "insert of one row", &[Record::INSERT], &[65535], &[0])?;
     on_flat(
         &rt,
         "delete and insert, 65,536 rows in between",
-        &[1, 2],
+        &[Record::DELETE, Record::INSERT],
         &[1, 65535],
         &[0, 0],
     )

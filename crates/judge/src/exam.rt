@@ -57,6 +57,7 @@ pub fn judged<L: Records>(t: Table, l: &L, i: Table) -> Result<u64, Refusal>
     for j in 0..l.len() {
         let r = l.record(j);
         let place = place_of(t.dist, t.size, r);
+        // with `map_err` the proof would have to name what the closure captures
         if let Err(fault) = tried(place, i, before, r) {
             return Err(Refusal::BadRecord(fault, j as u32));
         }

@@ -15,7 +15,7 @@ pub fn removes_rows(r: Record) -> bool
 }
 
 // Is it vain, where the old rows from first up to end are taken away: an insert under one of them, or another change of
-// one but the first?
+// one but the first? A record's places are numbers, so the rows are compared by theirs.
 fn is_vain(first: OldPre, end: OldPre, r: Record) -> bool
     ensures { result ≡ vain first.0 end.0 r }
 {

@@ -18,7 +18,7 @@ pub fn column(rt: &impl Print, s: &[u32]) -> io::Result<()> {
     Ok(())
 }
 
-// The flat table of n rows, at the head of the columns: a root and its children, which have none.
+// The flat table of n rows, at the head of the columns: a root and its children, which have none. It fills two columns.
 pub fn flat(dist: &mut [u32], size: &mut [u32], n: u32) {
     for (r, (d, s)) in (0..n).zip(dist.iter_mut().zip(size)) {
         *d = r.max(1);

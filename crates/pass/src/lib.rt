@@ -42,7 +42,7 @@ fn bring(
     }
 }
 
-// The row under which the record's change is made: an insert's own parent.
+// The row under which the record's change is made: an insert's own parent. Of the table it reads one column.
 fn parent_of(dist: &[u32], r: Record) -> OldPre
     requires { let p = r.location in
         (r.kind ≡ 2 → ⊥) → (p < length dist.now) × (get_or dist.now p 0 ≤ p) }

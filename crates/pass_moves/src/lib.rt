@@ -1,7 +1,7 @@
 // The small moves of the pass: rows are copied, values are written ahead, a row is closed. Each says what the new
 // columns hold then. In the contracts t is the table that rows are taken from, u the new columns before, and v after.
-// Here and in the pass the new columns are three parameters: with a struct of them paths took longer than before, and
-// longer than by the plain way of docs/BENCHMARKS.md.
+// Here and in the pass the new columns are three parameters: with one struct of them a refresh of a path takes longer
+// than to recompute all distances (docs/BENCHMARKS.md), and with three it does not.
 #![tactic(auto)]
 
 ghost use Rattle.std.specs.Prelude.{◌≡◌, ◌+◌, ◌-◌, ◌<◌, ◌≤◌, length, get_or, set, drop};
@@ -71,7 +71,8 @@ fn hang(d: u32, j: u32, x: u32) -> u32
     if x > j { d + j } else { x }
 }
 
-// Copies a part of the distances, of rows that all lie under the open row, d rows before the part.
+// Copies a part of the distances, of rows that all lie under the open row, d rows before the part. It takes
+// the one column that it reads.
 fn rehang(dist: &[u32], from: usize, count: usize, d: u32, new: &mut [u32], at: usize)
     requires { let n = length dist.now in
         (from + count ≤ n) × (at + count ≤ length new.old) × (d + count ≤ most_rows) }
@@ -150,7 +151,7 @@ pub fn revalue(c: Cursor, p: OldPre, a: u32, value: &[u32], nvalue: &mut [u32])
     nvalue[at + (place - first)] = a;
 }
 
-// The open row is closed: its size is known. Its parent, old and new, is open.
+// The open row is closed: its size is known. Its parent, old and new, is open. It takes the columns that it reads.
 pub fn close(c: Cursor, dist: &[u32], ndist: &[u32], nsize: &mut [u32]) -> Cursor
     requires { Closes dist.now ndist.now nsize.old c }
     ensures result_value { let q = c.parent.0 - get_or dist.now c.parent.0 0 in

@@ -12,7 +12,6 @@ use plan::lent::Table;
 use plan::{NewPre, OldPre};
 
 // Is the pass not yet where row p is next and q is open?
-// Rows are compared by their numbers: of a derived == a proof learns a Bool test, and would have to turn it back.
 pub fn elsewhere(c: Cursor, p: OldPre, q: OldPre) -> bool
     ensures { Elsewhere result c p.0 q.0 }
 {

@@ -1,6 +1,7 @@
 // The bulk call and the single call over plain columns: judged by the published tests, and written in one pass.
 // Accepted, the first rows of the new columns are the new table, and the rows behind stay. Refused, nothing is written.
-// In the contracts u are the new columns before, and w after. They stay three parameters, as in the pass.
+// In the contracts u are the new columns before, and w after. They are three parameters, as in the pass.
+// The table, the list and the insertions stay apart too: a struct of the three would be generic in the list.
 #![tactic(auto)]
 
 ghost use Rattle.std.specs.Prelude.{◌≡◌, true, [], ◌∷◌};
@@ -31,8 +32,6 @@ fn test_all<L: Records>(t: Table, l: &L, i: Table, new: Table) -> Result<(), Ref
 
 // A list of records, however it is lent, applied to a table: tested, and then written, one record after another. The
 // answer is the number of new rows.
-// The new columns are three parameters: of a struct that holds them each call would also have to say that it still
-// holds the same ones.
 pub fn apply<L: Records>(
     t: Table,
     l: &L,

@@ -28,7 +28,8 @@ pub fn test_even(t: Table) -> Result<(), Uneven>
     Ok(())
 }
 
-// Are the columns equally long, with 1 to 65,535 rows, and is row 0 the root of them all?
+// Are the columns equally long, with 1 to 65,535 rows, and is row 0 the root of them all? The values have
+// no part in it.
 fn rooted(dist: &[u32], size: &[u32]) -> bool
     ensures { Says result (Rooted dist.now size.now) }
 {

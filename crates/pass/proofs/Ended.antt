@@ -42,19 +42,6 @@ closes {t} h o v =
 
 -- ---- steps behind the last record, one after the other
 module _ {t u : Table} {c : Cursor} where
-  pub copied_none : Copied t u c u c
-  copied_none = record { still = λ i l w U. U; dist = refl; size = refl; value = refl }
-
-  pub copied_trans : {u' u'' : Table} {c' c'' : Cursor} → Copied t u c u' c' → Copied t u' c' u'' c''
-      → Copied t u c u'' c''
-  copied_trans a b =
-      record {
-        still = λ i l w U. b.still i l w (a.still i l w U);
-        dist = b.dist ∙ a.dist;
-        size = b.size ∙ a.size;
-        value = b.value ∙ a.value;
-      }
-
   pub last_on : {u' : Table} {c' : Cursor} → Last t u c → Copied t u c u' c' → Last t u' c'
   last_on l k =
       record {

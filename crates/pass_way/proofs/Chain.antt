@@ -3,7 +3,7 @@
 use Prim.Native.Nat.{ℕ, ◌≤◌}
 use native.Mathlib.Omega.{arith}
 use mathlib.Core.Path.{◌≡◌, refl, ◌∙◌, subst}
-use mathlib.Core.Bool.{Bool, true, false}
+use mathlib.Core.Bool.{Bool, true}
 use mathlib.Core.List.{List}
 use Rattle.plan.specs.Table.{Table}
 use Rattle.plan.specs.Change.{Change}
@@ -17,9 +17,6 @@ use Rattle.pass_way.specs.Walk.{Elsewhere, state_of, Stands, Ends, Kept, Ready, 
 
 pub away : (b : Bool) (c : Cursor) (p q : ℕ) → b ≡ true → Elsewhere b c p q → Away p q (row c) c.parent.0
 away b c p q e h = subst (λ (x : Bool). Elsewhere x c p q) e h
-
-pub arrived : (b : Bool) (c : Cursor) (p q : ℕ) → b ≡ false → Elsewhere b c p q → (row c ≡ p) × (c.parent.0 ≡ q)
-arrived b c p q e h = subst (λ (x : Bool). Elsewhere x c p q) e h
 
 pub reach_eq : {t : Table} {r r' s s' : State} → r ≡ r' → s ≡ s' → Reach t r' s' → Reach t r s
 reach_eq e w p = rw (e, w) p

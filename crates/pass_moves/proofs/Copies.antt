@@ -5,23 +5,13 @@ use native.Mathlib.Omega.{arith}
 use native.Mathlib.Numerals.{add-one}
 use native.Mathlib.Nat.{zero-add}
 use mathlib.Core.Path.{◌≡◌, refl, sym, ap, ◌∙◌}
-use mathlib.Core.List.{List, [], ◌∷◌, ◌++◌, append_assoc}
+use mathlib.Core.List.{List, [], ◌∷◌, ◌++◌}
 use lib.ListN.{length, get_or, set, take, drop, length-drop, length-set}
 use lib.Seq.{paste-zero, paste-suc, get_or-drop, get_or-take, get_or-append-add, get_or-set_same, get_or-set_other, ext_get_or, take-take, take_at, take-set-le, drop-set-lt, drop-drop, length-take-le, take-paste, drop-paste, length-paste}
-use borrow.Rule.Slice.PartMut.{put_mid}
 use borrow.Author.Tests.{lt-ltb, le-ltb}
 use Rattle.pass_moves.specs.Written.{row, out, copied, hung, rehung, Unread, Ahead, Revalues, Revalued}
 use Rattle.pass_moves.specs.declared.Cursor.{Cursor}
 use Rattle.plan.proofs.Kit.{by_place, by_side}
-
--- the part of u from `at` on, overwritten by the part of c from f on, of n numbers each
-pub copy_part : (u c part : List ℕ) (f at n : ℕ) → part ≡ take (f + n - f) (drop f c)
-    → put_mid at (at + n - at) u part ≡ copied u at c f n
-unfolding copied
-copy_part u c part f at n e =
-    let from : f + n - f ≡ n = omega arith in
-    let to : at + n - at ≡ n = omega arith in
-    rw (e, from, to, drop-drop n at u, append_assoc) refl
 
 pub copy_none : (c u : List ℕ) (f at : ℕ) → u ≡ copied u at c f 0
 unfolding copied

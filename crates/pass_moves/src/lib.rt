@@ -37,7 +37,9 @@ fn copy(column: &[u32], from: usize, count: usize, new: &mut [u32], at: usize)
     requires { (from + count ≤ length column.now) × (at + count ≤ length new.old) }
     ensures { new.new ≡ copied new.old at column.now from count }
 {
-    new[at..at + count].copy_from_slice(&column[from..from + count]);
+    for j in 0..count {
+        new[at + j] = column[from + j];
+    }
 }
 
 // The rows of a run become the next new rows, under the open row.

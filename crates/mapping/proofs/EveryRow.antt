@@ -2,12 +2,16 @@
 -- Assumes nothing.
 use Prim.Native.Nat.{ℕ, zero, suc, ◌+◌, ◌<◌}
 use native.Mathlib.Omega.{arith}
-use mathlib.Core.Path.{◌≡◌, sym, ap, ◌∙◌}
+use mathlib.Core.Path.{◌≡◌, refl, sym, ap, ◌∙◌}
 use mathlib.Core.Bool.{Bool, ◌&&◌}
 use mathlib.Core.List.{List, map}
 use lib.ListN.{get_or, get_or-map}
+use Rattle.std.specs.Prelude.{Result}
 use Rattle.plan.specs.declared.Record.{Record}
 use Rattle.plan.specs.declared.Answer.{Answer}
+use Rattle.plan.specs.declared.refusal.Refusal.{Refusal}
+use Rattle.plan.specs.Told.{answer_told}
+use Rattle.plan.proofs.Apart.{answer_once}
 use Rattle.plan.specs.Verdict.{Passed}
 use Rattle.plan.specs.Table.{Table, even}
 use Rattle.plan.specs.Paint.{Origin, origins}
@@ -51,3 +55,18 @@ pub one_new : (evens : Bool) (t i : Table) (l : List Record) (u : Places) (a b :
     → (a ≡ b) × (w.records ≡ v.records) × (w.rows ≡ v.rows)
 one_new evens t i l u a b w v d e =
     (d.answered ∙ sym e.answered, d.records ∙ sym e.records, d.rows ∙ sym e.rows)
+
+-- and with it what the code hands back
+pub one_old_result : (evens : Bool) (t i : Table) (l : List Record) (u : List ℕ) (a b : Result ℕ Refusal)
+    (w v : List ℕ) → OldDone evens t i l u (answer_told a) w → OldDone evens t i l u (answer_told b) v
+    → (a ≡ b) × (w ≡ v)
+one_old_result evens t i l u a b w v d e =
+    let o = one_old evens t i l u (answer_told a) (answer_told b) w v d e in
+    (answer_once (answer_told b) a b o.0 refl, o.1)
+
+pub one_new_result : (evens : Bool) (t i : Table) (l : List Record) (u : Places) (a b : Result ℕ Refusal)
+    (w v : Places) → NewDone evens t i l u (answer_told a) w → NewDone evens t i l u (answer_told b) v
+    → (a ≡ b) × (w.records ≡ v.records) × (w.rows ≡ v.rows)
+one_new_result evens t i l u a b w v d e =
+    let o = one_new evens t i l u (answer_told a) (answer_told b) w v d e in
+    (answer_once (answer_told b) a b o.0 refl, o.1, o.2)

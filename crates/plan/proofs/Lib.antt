@@ -20,6 +20,7 @@ pub mod Kit
 pub mod Columns
 pub mod Rows
 pub mod Verdicts
+pub mod Apart
 pub mod FourKinds
 pub mod Readback
 pub mod Sound

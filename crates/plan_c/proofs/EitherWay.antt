@@ -2,10 +2,11 @@
 -- the call on columns ensures, and what the exported call on a slice ensures, leave no choice.
 -- Assumes nothing.
 use Prim.Native.Nat.{ℕ}
-use mathlib.Core.Path.{◌≡◌, sym, ap, ◌∙◌, subst}
+use mathlib.Core.Path.{◌≡◌, refl, sym, ap, ◌∙◌, subst}
 use mathlib.Core.Bool.{Bool, true, ◌&&◌}
 use mathlib.Core.List.{List}
 use lib.ListN.{length}
+use Rattle.std.specs.Prelude.{Result}
 use Rattle.plan.specs.declared.Record.{Record}
 use Rattle.plan.specs.declared.Answer.{Answer}
 use Rattle.plan.specs.Tree.{count}
@@ -14,6 +15,9 @@ use Rattle.plan.specs.Paint.{origins}
 use Rattle.plan.specs.Call.{result}
 use Rattle.plan.specs.Lent.{Lent, level, list}
 use Rattle.plan.specs.Mapping.{fate, origin_at, queried}
+use Rattle.plan.specs.declared.refusal.Refusal.{Refusal}
+use Rattle.plan.specs.Told.{judgement_told}
+use Rattle.plan.proofs.Apart.{judgement_once}
 use Rattle.plan.specs.Verdict.{Judgement}
 use Rattle.plan.specs.Call.{published, published_of}
 use Rattle.plan.specs.Call.{Done}
@@ -36,6 +40,11 @@ module _ (t i : Table) (c : Lent) (l : List Record) (even-columns : level c ≡ 
   pub judged_either_way : (a b : Judgement) → a ≡ published t i c → b ≡ published_of (even t && even i) t i l → a ≡ b
   judged_either_way a b d e =
       as_slice (λ (v : Bool) (rs : List Record). a ≡ published_of (v && (even t && even i)) t i rs) d ∙ sym e
+
+  pub one-judgement_either_way : (a b : Result ℕ Refusal) → judgement_told a ≡ published t i c
+      → judgement_told b ≡ published_of (even t && even i) t i l → a ≡ b
+  one-judgement_either_way a b d e =
+      judgement_once (judgement_told b) a b (judged_either_way (judgement_told a) (judgement_told b) d e) refl
 
   pub bulk_either_way : (u : Table) (a b : Answer) (w v : Table) → Done (level c) t i (list c) u a w
       → Done true t i l u b v → (a ≡ b) × (w ≡ v)

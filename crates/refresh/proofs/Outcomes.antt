@@ -7,8 +7,12 @@ use mathlib.Core.Path.{◌≡◌, refl, sym, ap, ◌∙◌}
 use mathlib.Core.Bool.{Bool, true}
 use mathlib.Core.List.{List, [], ◌∷◌}
 use lib.ListN.{length}
+use Rattle.std.specs.Prelude.{Result}
 use Rattle.plan.specs.declared.Record.{Record}
 use Rattle.plan.specs.declared.Answer.{Answer}
+use Rattle.plan.specs.declared.refusal.Refusal.{Refusal}
+use Rattle.plan.specs.Told.{answer_told}
+use Rattle.plan.proofs.Apart.{answer_once}
 use Rattle.plan.specs.Verdict.{Verdict}
 use Rattle.plan.specs.Verdict.{Passed, Failed}
 use Rattle.plan.proofs.Refusals.{refused_for, reason_number, reason_rows}
@@ -68,6 +72,13 @@ module _ (evens : Bool) (t i : Table) (l : List Record) (u : Table) where
     -- the contract determines the outcome
     pub one_outcome : (b : Answer) (v : Table) → Done evens t i l u b v → (a ≡ b) × (w ≡ v)
     one_outcome b v e = (d.answered ∙ sym e.answered, d.columns ∙ sym e.columns)
+
+  -- and with it what the code hands back
+  pub one_result : (a b : Result ℕ Refusal) (w v : Table) → Done evens t i l u (answer_told a) w
+      → Done evens t i l u (answer_told b) v → (a ≡ b) × (w ≡ v)
+  one_result a b w v d e =
+      let o = one_outcome (answer_told a) w d (answer_told b) v e in
+      (answer_once (answer_told b) a b o.0 refl, o.1)
 
 -- the single call: the table of the tree changed once
 pub changed_once : (t i : Table) (r : Record) (u : Table) (a : Answer) (w : Table) → Done true t i (r ∷ []) u a w

@@ -12,7 +12,9 @@ use Rattle.plan.specs.Told.{refused_told, reply_told, row_told, start_told, step
 use Rattle.table.proofs.Told.{differ, no-row}
 use Rattle.table.specs.Shape.{Shaped, Begun, Right}
 
--- `soundness`, `is_sound` and `subtree`: an answer, a yes or no, and a list of values, each given by an equation
+-- `is_sound` and `subtree`: a yes or no, and a list of values, each given by an equation. What `soundness` hands back is
+-- given by its reading, which tells all answers apart: `answer_once` of plan, and `even_once` and `verdict_once` of the
+-- tests 1 and 2
 pub same_once : {A : Type 0} (x a b : A) → a ≡ x → b ≡ x → a ≡ b
 same_once x a b p q = p ∙ sym q
 

@@ -8,7 +8,8 @@ use mathlib.Core.List.{List}
 use lib.Dec.{leb}
 use lib.ListN.{length, get_or, drop}
 use borrow.Author.Tests.{leb-true}
-use Rattle.std.specs.Prelude.{Err}
+use Rattle.std.specs.Prelude.{⊤, Result, Err, IsErrAnd}
+use Rattle.std.proofs.lemmas.Result.{err_from_is_err_and}
 use Rattle.std.proofs.lemmas.List.{drop_all}
 use Rattle.plan.specs.declared.Record.{Record}
 use Rattle.plan.specs.Verdict.{Verdict}
@@ -20,8 +21,8 @@ use Rattle.plan.specs.Answer.{accepted}
 use Rattle.plan.specs.Tree.{count}
 use Rattle.plan.specs.Table.{Table, even}
 use Rattle.plan.specs.Way.{stand}
-use Rattle.plan.specs.Told.{failed, judgement_told, refused_answer}
-use Rattle.plan.specs.Call.{then, test, result, judged, bulk, published_of, Done}
+use Rattle.plan.specs.Told.{failed, verdict_told, judgement_told, refused_answer}
+use Rattle.plan.specs.Call.{then, test, result, judged, judgement, bulk, published_of, Done}
 use Rattle.plan.specs.Lent.{Lent, level, list}
 use Rattle.plan.proofs.Kit.{T_and, and_false}
 use Rattle.plan.proofs.Verdicts.{test_true, test_false, then-passed}
@@ -66,6 +67,10 @@ module _ (t i : Table) (l : List Record) (u : Table) where
   unfolding bulk judged
   not_even h = rw (and_false (even t) (and_false (even i) (test_false (even u) 1 0 0 1 0 0 (sym h))))
 
+  pub uneven_refused : (a : Result ⊤ Refusal) → IsErrAnd a (λ e. e ≡ Uneven) → Failed 1 0 0 ≡ test (even u) 1 0 0
+      → verdict_told a ≡ verdict
+  uneven_refused a k h = let p = err_from_is_err_and a k in rw (p.1, p.2) (not_even h)
+
   module _ (e : Passed ≡ test (even u) 1 0 0) where
     then_ten : verdict ≡ then (judged (even t && even i) t i l) (test (leb f (length u.size)) 10 0 f)
     unfolding bulk
@@ -80,6 +85,16 @@ module _ (t i : Table) (l : List Record) (u : Table) where
     room_decides {n} g h =
         let passed = (needs_told (judged (even t && even i) t i l) f n).0 (sym g) in
         h ∙ sym (then_ten ∙ rw (passed.0, ← passed.1))
+
+  pub judgement_refused : (a : Result ⊤ Refusal) (r : Refusal) → IsErrAnd a (λ e. e ≡ r)
+      → Passed ≡ test (even u) 1 0 0 → judgement (failed r) 0 ≡ published_of (even t && even i) t i l
+      → verdict_told a ≡ verdict
+  judgement_refused a r k e h = let p = err_from_is_err_and a k in rw (p.1, p.2) (not_judged e r h)
+
+  pub room_told : (n : ℕ) (a : Result ⊤ Refusal) → Passed ≡ test (even u) 1 0 0
+      → Needs n ≡ published_of (even t && even i) t i l
+      → verdict_told a ≡ test (leb n (length u.size)) 10 0 n → verdict_told a ≡ verdict
+  room_told n a e g h = room_decides e g h
 
   -- ---- all have passed
   module _ (h : Passed ≡ verdict) where

@@ -20,6 +20,7 @@ use plan::refusal::Refusal;
 use table::test_even;
 
 // Tests 1 to 10, in their order.
+#[tactic(auto, using(crate::proofs::Settling::uneven_refused))]
 fn test_all<L: Records>(t: Table, l: &L, i: Table, new: Table) -> Result<(), Refusal>
     ensures { let t' = read t.entry in
         let i' = read i.entry in
@@ -31,7 +32,8 @@ fn test_all<L: Records>(t: Table, l: &L, i: Table, new: Table) -> Result<(), Ref
 }
 
 // A list of records, however it is lent, applied to a table: tested, and then written, one record after another. The
-// answer is the number of new rows.
+// answer is the number of new rows. Inlined, it takes less stack: the calls for C hold the columns already.
+#[inline(always)]
 pub fn apply<L: Records>(
     t: Table,
     l: &L,

@@ -8,7 +8,7 @@ use Rattle.plan.specs.Axes.{cell, row, nothing, refuse, parent, first_child, nex
 use Rattle.plan.proofs.Kit.{by_place}
 use Rattle.plan.proofs.Tests.{reply-passed, reply_failed, whole_small, whole-past, whole_of, parent-root, parent_small, parent-past, parent_of, sibling_small, sibling_long, sibling_past, sibling_of, step_small, step_past, step-child}
 use Rattle.plan.specs.Told.{start_told}
-use Rattle.table.proofs.Told.{RowIn, TopIn, ParentIn}
+use Rattle.table.proofs.Told.{RowIn, TopIn, ParentIn, top-told}
 
 -- ---- a row x of columns of one length
 module _ (t : Table) (r x : ℕ) (w : RowIn t r x) where
@@ -74,6 +74,11 @@ module _ (t : Table) (r x : ℕ) (w : TopIn t r x) where
   pub start_is : start_told (Ok (record { top = x; next = x + 1; end = x + cell t.size x })) ≡ walk_start t r
   unfolding walk_start
   start_is = rw (w.tests, top-here, w.row_in.same)
+
+-- and so where the subtree is answered
+pub start_row : (t : Table) (r x : ℕ) → row x ≡ subtree_top t r
+    → start_told (Ok (record { top = x; next = x + 1; end = x + cell t.size x })) ≡ walk_start t r
+start_row t r x h = start_is t r x (top-told t r x h)
 
 -- ---- with a parent q: the row has the size s, and the parent ends before e
 module _ (t : Table) (r q s e : ℕ) (w : ParentIn t r q) (own : s ≡ cell t.size r) (end_of : e ≡ q + cell t.size q) where

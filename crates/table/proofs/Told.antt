@@ -11,10 +11,10 @@ use Rattle.plan.specs.declared.refusal.RowRefusal.{RowRefusal}
 use Rattle.plan.specs.declared.refusal.RowRefusal.TheVariants.{Uneven as UnevenTable, NoSuchRow as NoRow, Broken}
 use Rattle.plan.specs.Table.{Table, even, sound}
 use Rattle.plan.specs.Call.{then, test, answer}
-use Rattle.plan.specs.Told.{even_told, failed, refused_told, reply_told, start_told}
+use Rattle.plan.specs.Told.{even_told, failed, answer_told, refused_told, reply_told, start_told}
 use Rattle.plan.specs.Axes.{soundness, cell, Reply, row, nothing, reply, part_where, start_where, asked, asked_row, whole, parent, first_child, next_sibling, subtree_top, subtree, walk_start}
 use Rattle.plan.proofs.Verdicts.{passed-told, failed_told}
-use Rattle.plan.proofs.Tests.{reply-row, row_same, even_lengths, asked-passed, whole-passed, parent_row}
+use Rattle.plan.proofs.Tests.{soundness-uneven, reply-row, row_same, even_lengths, asked-passed, whole-passed, parent_row}
 
 -- a refusal that is handed on
 pub handed_on : {A E B : Type 0} (told : Result A E → B) (r : Result A E) {e : E} {b : B} → IsErrAnd r (λ f. f ≡ e)
@@ -41,6 +41,24 @@ answer_failed (NoSuchRow r) v rows h = ap (λ (w : Verdict). answer w rows) h
 pub soundness-even : (t : Table) → even t ≡ true → answer (test (sound t) 2 0 0) (length t.size) ≡ soundness t
 unfolding soundness
 soundness-even t e = rw e refl
+
+-- what it hands back: uneven, unsound, or the number of rows
+module _ (t : Table) where
+  pub soundness_odd : (a : Result ℕ Refusal) → IsErrAnd a (λ e. e ≡ Uneven) → Failed 1 0 0 ≡ test (even t) 1 0 0
+      → answer_told a ≡ soundness t
+  soundness_odd a k h = handed_on answer_told a k (sym (soundness-uneven t (failed_told (even t) 1 0 0 h refl)))
+
+  pub soundness_bad : (a : Result ℕ Refusal) (e : Refusal) → IsErrAnd a (λ f. f ≡ e)
+      → Passed ≡ test (even t) 1 0 0 → failed e ≡ test (sound t) 2 0 0 → answer_told a ≡ soundness t
+  soundness_bad a e k h s =
+      handed_on answer_told a k
+      (answer_failed e (test (sound t) 2 0 0) (length t.size) s
+      ∙ soundness-even t (passed-told (even t) 1 0 0 h refl))
+
+  pub soundness_rows : Passed ≡ test (even t) 1 0 0 → Passed ≡ test (sound t) 2 0 0
+      → answer_told (Ok (length t.size)) ≡ soundness t
+  soundness_rows h s =
+      ap (λ (v : Verdict). answer v (length t.size)) s ∙ soundness-even t (passed-told (even t) 1 0 0 h refl)
 
 -- ---- a call on a row
 -- the row x that was found is the row r that was asked about, in columns of one length

@@ -57,6 +57,7 @@ pub fn test_sound(t: Table) -> Result<(), Refusal>
 }
 
 // The soundness call: tests 1 and 2; accepted it counts the rows.
+#[tactic(auto, using(crate::proofs::Told::soundness_odd))]
 pub fn soundness(t: Table) -> Result<u64, Refusal>
     ensures { answer_told result ≡ soundness_of (read t.entry) }
 {

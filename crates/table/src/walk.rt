@@ -10,7 +10,7 @@ use plan::refusal::{Misfit, RowRefusal};
 use plan::{Child, Span};
 
 // The walk over the children of row r, at its start.
-#[tactic(auto, using(crate::proofs::Told::top_within))]
+#[tactic(auto, using(crate::proofs::Told::top_within, crate::proofs::Told::start_handed))]
 pub fn start_walk(t: Table, r: u32) -> Result<Span, RowRefusal>
     ensures { start_told result ≡ walk_start (read t.entry) r }
 {

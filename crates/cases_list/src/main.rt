@@ -223,12 +223,11 @@ fn many(rt: &impl Print) -> io::Result<()> {
 fn flat(rt: &impl Print, name: &str, kind: u32, location: u32) -> io::Result<()> {
     let mut dist = [0u32; 65535];
     let mut size = [0u32; 65535];
-    let value = [0u32; 65535];
     out::flat(&mut dist, &mut size, 65535);
     let t = Table {
         dist: &dist,
         size: &size,
-        value: &value,
+        value: &[0; 65535],
     };
     let l = Changes {
         kind: &[kind],

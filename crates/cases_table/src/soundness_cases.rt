@@ -38,13 +38,12 @@ fn flat_case(rt: &impl Print, n: u32) -> io::Result<()>
 {
     let mut dist = [0u32; 65536];
     let mut size = [0u32; 65536];
-    let value = [0u32; 65536];
     flat(&mut dist, &mut size, n);
     let m = n as usize;
     let t = Table {
         dist: &dist[..m],
         size: &size[..m],
-        value: &value[..m],
+        value: &[0; 65536][..m],
     };
     print!(rt; "flat, {n}")?;
     case(rt, " rows", t)

@@ -1,13 +1,16 @@
 // For the programs that print cases: a heading, a column, a flat table, the worked plan.
 #![tactic(auto)]
 
+use std::convert::AsSlice;
 use std::io;
 
 pub mod worked;
 
-// A heading, on a line of its own.
-pub fn heading(rt: &impl Print, s: &str) -> io::Result<()> {
-    println!(rt; "-- {s}")
+// A heading, on a line of its own: a text, or any bytes.
+pub fn heading(rt: &impl Print, s: impl AsSlice<u8> + Drop) -> io::Result<()> {
+    print!(rt; "-- ")?;
+    rt.write_all(s.as_slice())?;
+    println!(rt;)
 }
 
 // The numbers of a column, each after a space.
@@ -18,10 +21,19 @@ pub fn column(rt: &impl Print, s: &[u32]) -> io::Result<()> {
     Ok(())
 }
 
-// The flat table of n rows, at the head of the columns: a root and its children, which have none. It fills two columns.
+// The flat table of n rows, at the head of the columns: a root and its children, which have none. Each column is filled
+// as far as it goes.
 pub fn flat(dist: &mut [u32], size: &mut [u32], n: u32) {
-    for (r, (d, s)) in (0..n).zip(dist.iter_mut().zip(size)) {
-        *d = r.max(1);
-        *s = if r == 0 { n } else { 1 };
+    for (r, d) in (0..n).zip(dist.iter_mut()) {
+        *d = r;
+    }
+    for (_, s) in (0..n).zip(size.iter_mut()) {
+        *s = 1;
+    }
+    if let Some(d) = dist.first_mut() {
+        *d = 1;
+    }
+    if let Some(s) = size.first_mut() {
+        *s = n;
     }
 }

@@ -251,7 +251,7 @@ fn on_flat(rt: &impl Print) -> io::Result<()> {
 }
 
 fn main(rt: HostRuntime) -> io::Result<()> {
-    heading(&rt, "lists")?;
+    heading(&rt, b"lists")?;
     accepted(&rt)?;
     refused(&rt)?;
     columns(&rt)?;

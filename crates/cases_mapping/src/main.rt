@@ -101,7 +101,7 @@ fn on_short(rt: &impl Print) -> io::Result<()> {
 fn main(rt: HostRuntime) -> io::Result<()> {
     heading(
         &rt,
-        "both mappings of lists on T; the last rows asked about are not in the table",
+        b"both mappings of lists on T; the last rows asked about are not in the table",
     )?;
     on_t(&rt, "A", worked::A)?;
     on_t(&rt, "B", worked::B)?;
@@ -109,6 +109,6 @@ fn main(rt: HostRuntime) -> io::Result<()> {
     on_t(&rt, "D", worked::D)?;
     on_t(&rt, "I", worked::I)?;
     on_t(&rt, "K", worked::K)?;
-    heading(&rt, "lent columns")?;
+    heading(&rt, b"lent columns")?;
     on_short(&rt)
 }

@@ -131,7 +131,7 @@ fn alone(rt: &impl Print) -> io::Result<()> {
 }
 
 fn main(rt: HostRuntime) -> io::Result<()> {
-    heading(&rt, "lists on T; new columns of 9 rows that hold 99")?;
+    heading(&rt, b"lists on T; new columns of 9 rows that hold 99")?;
     on_t(&rt, "A", worked::A)?;
     on_t(&rt, "B", worked::B)?;
     on_t(&rt, "C", worked::C)?;
@@ -142,7 +142,7 @@ fn main(rt: HostRuntime) -> io::Result<()> {
     on_t(&rt, "K", worked::K)?;
     short(&rt)?;
     alone(&rt)?;
-    heading(&rt, "the flat table of 65,535 rows")?;
+    heading(&rt, b"the flat table of 65,535 rows")?;
     on_flat(&rt, "rename", &[Record::RENAME], &[65534], &[0])?;
     on_flat(&rt, "insert of one row", &[Record::INSERT], &[65535], &[0])?;
     on_flat(

@@ -37,7 +37,7 @@ fn rows(rt: &impl Print, t: Table, n: u32) -> io::Result<()> {
 }
 
 fn worked_table(rt: &impl Print) -> io::Result<()> {
-    heading(rt, "T, every row, then rows 7 and 4294967295")?;
+    heading(rt, b"T, every row, then rows 7 and 4294967295")?;
     rows(rt, worked::TABLE, 7)?;
     row(rt, worked::TABLE, 7)?;
     row(rt, worked::TABLE, 4294967295)
@@ -55,11 +55,11 @@ fn lengths(rt: &impl Print) -> io::Result<()> {
     };
     heading(
         rt,
-        "T with values one row short: row 0, then row 4294967295",
+        b"T with values one row short: row 0, then row 4294967295",
     )?;
     row(rt, short, 0)?;
     row(rt, short, 4294967295)?;
-    heading(rt, "no rows: row 0")?;
+    heading(rt, b"no rows: row 0")?;
     row(rt, empty, 0)
 }
 
@@ -70,7 +70,7 @@ fn three(rt: &impl Print, name: &str, dist: [u32; 3], size: [u32; 3]) -> io::Res
         size: &size,
         value: &[10, 20, 30],
     };
-    heading(rt, name)?;
+    heading(rt, name.as_bytes())?;
     rows(rt, t, 3)
 }
 

@@ -116,7 +116,7 @@ fn runs(rt: &impl Print) -> io::Result<()> {
 }
 
 pub fn all(rt: &impl Print) -> io::Result<()> {
-    heading(rt, "soundness")?;
+    heading(rt, b"soundness")?;
     lengths(rt)?;
     threes(rt)?;
     huge(rt)?;

@@ -32,7 +32,7 @@ fn walk(rt: &impl Print, t: Table, r: u32, count: u32) -> io::Result<()> {
 }
 
 fn worked_table(rt: &impl Print) -> io::Result<()> {
-    heading(rt, "walks over T")?;
+    heading(rt, b"walks over T")?;
     walk(rt, worked::TABLE, 0, 5)?;
     walk(rt, worked::TABLE, 1, 4)?;
     walk(rt, worked::TABLE, 2, 2)?;
@@ -46,7 +46,7 @@ fn lengths(rt: &impl Print) -> io::Result<()> {
         value: &worked::TABLE.value[..6],
         ..worked::TABLE
     };
-    heading(rt, "T with values one row short")?;
+    heading(rt, b"T with values one row short")?;
     walk(rt, short, 0, 2)
 }
 
@@ -57,7 +57,7 @@ fn five(rt: &impl Print, name: &str, size: [u32; 5], r: u32) -> io::Result<()> {
         size: &size,
         value: &[10, 20, 30, 40, 50],
     };
-    heading(rt, name)?;
+    heading(rt, name.as_bytes())?;
     walk(rt, t, 0, 4)?;
     walk(rt, t, r, 2)
 }

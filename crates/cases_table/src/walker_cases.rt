@@ -20,7 +20,7 @@ fn walk(rt: &impl Print, t: Table, r: u32) -> io::Result<()> {
 
 // Rows 0 and 1, and a walk that is refused at its start.
 fn worked_table(rt: &impl Print) -> io::Result<()> {
-    heading(rt, "the walker on T")?;
+    heading(rt, b"the walker on T")?;
     walk(rt, worked::TABLE, 0)?;
     walk(rt, worked::TABLE, 1)?;
     walk(rt, worked::TABLE, 7)
@@ -35,7 +35,7 @@ fn unsound(rt: &impl Print) -> io::Result<()> {
     };
     heading(
         rt,
-        "the walker on sizes 5,1,4,1,1: the second child passes the end",
+        b"the walker on sizes 5,1,4,1,1: the second child passes the end",
     )?;
     walk(rt, t, 0)
 }

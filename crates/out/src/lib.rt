@@ -1,15 +1,14 @@
 // For the programs that print cases: a heading, a column, a flat table, the worked plan.
 #![tactic(auto)]
 
-use std::convert::AsSlice;
 use std::io;
 
 pub mod worked;
 
-// A heading, on a line of its own: a text, or any bytes.
-pub fn heading(rt: &impl Print, s: impl AsSlice<u8> + Drop) -> io::Result<()> {
+// A heading, on a line of its own. It takes any bytes.
+pub fn heading(rt: &impl Print, s: &[u8]) -> io::Result<()> {
     print!(rt; "-- ")?;
-    rt.write_all(s.as_slice())?;
+    rt.write_all(s)?;
     println!(rt;)
 }
 

@@ -5,7 +5,7 @@ use native.Mathlib.Omega.{arith}
 use Rattle.plan.proofs.Kit.{by_place}
 use mathlib.Core.Path.{◌≡◌, refl, sym, ap, ◌∙◌}
 use mathlib.Core.List.{List, []}
-use lib.ListN.{length, set}
+use lib.ListN.{length, get_or, set, length-set}
 use lib.Seq.{take_all}
 use Rattle.plan.specs.declared.Record.{Record}
 use Rattle.plan.specs.Tree.{Forest, none, count}
@@ -23,7 +23,7 @@ use Rattle.pass_moves.specs.Written.{row, out, cursor, Ended, Closes, stretched,
 use Rattle.pass_way.proofs.Grown.{Grown, grown_state, grown_kept, grown_room, grown_below, stretched_grown}
 use Rattle.pass_way.proofs.Chain.{reach_eq, kept-none, kept_trans}
 use Rattle.pass_way.proofs.Steps.{copied_to, plainly, as_state, good, Fits, fits, can_close, went_close, ahead-on}
-use Rattle.pass.specs.Underway.{Underway}
+use Rattle.pass.specs.Underway.{Underway, Copied}
 use Rattle.pass.proofs.Given.{stops_on}
 use Rattle.pass.proofs.Ended.{valued_most, rows-low, few-rows, at_last, tree-on, ends, ready, to_the_end, moved_on}
 
@@ -172,6 +172,12 @@ module _ {t i : Table} {l : List Record} {w u : Table} {c : Cursor} (U : Underwa
           let v = by_place (row c) e (λ h. h) (λ h. absurd (ne h)) (λ h. absurd (omega arith)) in
           rw ek (omega (arith, line-below U.stands.line, few-rows U))
 
+  -- all rows are copied, so the open row ends here
+  pub end-here : row c ≡ length t.size → row c ≡ c.parent.0 + size_at t c.parent.0
+  end-here e =
+      let x = U.stands.line in
+      omega (arith, line-room (tree-on U) x, line-end x)
+
   -- ---- the open row is closed
   module _ (v : Away (length t.size) 0 (row c) c.parent.0)
       (e : row c ≡ c.parent.0 + size_at t c.parent.0) where
@@ -195,3 +201,19 @@ module _ {t i : Table} {l : List Record} {w u : Table} {c : Cursor} (U : Underwa
 
       pub closed_less : ahead t c' < ahead t c
       closed_less = closing.1
+
+-- all rows are copied, and another row than the root is open: it is closed, whatever the list is
+module _ {t : Table} {dist size value size' : List ℕ} {c c' : Cursor} (e : row c ≡ length t.size)
+    (ne : c.parent.0 ≡ 0 → ⊥) (es : size' ≡ set size c.under.0 (out c - c.under.0))
+    (ec : c' ≡ cursor c.stand (c.parent.0 - dist_at t c.parent.0) (c.under.0 - get_or dist c.under.0 0)
+    c.valued.0) where
+  pub copied-closed : Copied t (table dist size value) c (table dist size' value) c'
+  copied-closed =
+      let n : ℕ = out c - c.under.0 in
+      record {
+        still = λ i l w U.
+            closed U (λ x. ne) (end-here U e) (sized-is (table dist size value) c.under.0 n es) ec;
+        dist = refl;
+        size = rw es (length-set size c.under.0 n);
+        value = refl;
+      }

@@ -51,6 +51,16 @@ module _ {t u : Table} {c : Cursor} where
         underway = k.still l.insertions l.list l.new l.underway;
       }
 
+  pub copied_trans : {u' u'' : Table} {c' c'' : Cursor} → Copied t u c u' c' → Copied t u' c' u'' c''
+      → Copied t u c u'' c''
+  copied_trans a b =
+      record {
+        still = λ i l w U. b.still i l w (a.still i l w U);
+        dist = b.dist ∙ a.dist;
+        size = b.size ∙ a.size;
+        value = b.value ∙ a.value;
+      }
+
 module _ {t i : Table} {l : List Record} {w u : Table} {c : Cursor} (U : Underway t i l w u c []) where
   abbrev n : ℕ
   n = length t.size

@@ -78,6 +78,16 @@ pub record Copied (t u : Table) (c : Cursor) (u' : Table) (c' : Cursor) : Type 0
   pub size : length u'.size ≡ length u.size
   pub value : length u'.value ≡ length u.value
 
+-- all rows are copied, and with some values some list is at its end
+pub record Through (t : Table) (dist size : List ℕ) (c : Cursor) : Type 0 where
+  pub value : List ℕ
+  pub last : Last t (table dist size value) c
+  pub all : row c ≡ length t.size
+
+-- with these sizes, whatever the values are, every list that was at its end still is
+abbrev pub Closed : Table → (dist size : List ℕ) → Cursor → List ℕ → Cursor → Type 0
+Closed t dist size c size' c' = (value : List ℕ) → Copied t (table dist size value) c (table dist size' value) c'
+
 -- every list that was at its end is done
 pub record Finished (t u : Table) (c : Cursor) (u' : Table) (n : ℕ) : Type 0 where
   pub answered : (i : Table) (l : List Record) (w : Table) → Underway t i l w u c [] → Answered t i l w u' n

@@ -11,12 +11,12 @@ ghost use Rattle.pass_moves.specs.Written.{row, cursor, rowed};
 ghost use Rattle.pass_way.specs.Machine.{Away};
 ghost use Rattle.pass_way.specs.Walk.{ahead};
 ghost use Rattle.pass.specs.Taking.{Under, Brings, with_run};
-ghost use Rattle.pass.specs.Underway.{Next, Taken, Last, Copied, Finished};
+ghost use Rattle.pass.specs.Underway.{Next, Taken, Last, Copied, Through, Closed, Finished};
 
 use judge_record::run::has_run;
 use judge_record::way::{meet, row_behind, run_rows};
 use pass_moves::{Cursor, close, end, paste, revalue, stretch};
-use pass_way::{elsewhere, upto};
+use pass_way::upto;
 use plan::lent::Table;
 use plan::{Meeting, NewPre, OldPre, Record, Stand};
 
@@ -118,8 +118,25 @@ fn tail_step(
     stretch(c, e, t, ndist, nsize, nvalue)
 }
 
+// All rows are copied: the rows that are open are closed, one by one, but for the root. Of the new columns it takes the
+// two that it reads or writes. Out of line it is a short loop with nothing beside it: on a path nearly all rows are
+// closed here (docs/BENCHMARKS.md).
+#[inline(never)]
+fn close_all(start: Cursor, t: Table, ndist: &[u32], nsize: &mut [u32]) -> Cursor
+    requires { Through (read t) ndist.now nsize.old start }
+    ensures { let t = read t.entry in
+        Closed t ndist.now nsize.old start nsize.new result × (row result ≡ length t.size) × (result.parent.0 ≡ 0) }
+{
+    let mut c = start;
+    while c.parent != OldPre(0) {
+        c = close(c, t.dist, ndist, nsize);
+    }
+    c
+}
+
 // Behind the last record: all rows that are left are copied, and the root alone stays open.
-// By `upto` the rows that are open at the last row would all be closed, one by one; here they are copied at once.
+// By `upto` the rows above the last one would be opened and closed again, one by one; here they are copied at once, and
+// only those that are open already are closed.
 fn tail(start: Cursor, t: Table, ndist: &mut [u32], nsize: &mut [u32], nvalue: &mut [u32]) -> Cursor
     requires { let u = table ndist.old nsize.old nvalue.old in
         Last (read t) u start }
@@ -129,12 +146,11 @@ fn tail(start: Cursor, t: Table, ndist: &mut [u32], nsize: &mut [u32], nvalue: &
         Copied t u start v result × (row result ≡ length t.size) × (result.parent.0 ≡ 0) }
 {
     let n = OldPre(t.size.len() as u32);
-    let root = OldPre(0);
     let mut c = start;
-    while elsewhere(c, n, root) {
+    while c.stand.row != n {
         c = tail_step(c, t, ndist, nsize, nvalue);
     }
-    c
+    close_all(c, t, ndist, nsize)
 }
 
 // The rows behind the last record, and the root's size. The answer is the number of new rows.

@@ -12,7 +12,9 @@ use plan::lent::Table;
 use plan::refusal::Refusal;
 
 // The sum test: each row fits into one before it, and distance times size add up to 1 + .. + n.
-// A sum d + s that wraps is let through: its product alone is more than that.
+// Out of line its loop begins at a multiple of 16 bytes, and takes as long wherever the call is linked to
+// (docs/BENCHMARKS.md).
+#[inline(never)]
 fn sums(dist: &[u32], size: &[u32]) -> bool
     requires { Rooted dist.now size.now }
     ensures { Says result (Shaped dist.now size.now) }
@@ -21,19 +23,14 @@ fn sums(dist: &[u32], size: &[u32]) -> bool
     let mut sum = n;
     for r in 1..n as u32 {
         let d = dist[r as usize];
+        if d == 0 || d > r {
+            return false;
+        }
         let s = size[r as usize];
-        let q = r.wrapping_sub(d);
-        if q >= r {
+        if s == 0 || d as u64 + s as u64 > size[(r - d) as usize] as u64 {
             return false;
         }
-        if d.wrapping_add(s) > size[q as usize] {
-            return false;
-        }
-        let p = d as usize * s as usize;
-        if p == 0 {
-            return false;
-        }
-        sum += p;
+        sum += d as usize * s as usize;
     }
     sum == n * (n + 1) / 2
 }

@@ -2,7 +2,7 @@
 -- pass nearer to the end.
 -- Assumes nothing.
 use native.Mathlib.Omega.{arith}
-use Rattle.pass_way.proofs.Chain.{away}
+use Rattle.std.proofs.lemmas.Bool.Decides.{nat_tests}
 use Rattle.pass.proofs.Ended.{rows-low, last_on}
 use Rattle.pass.proofs.tail.Goals as goal
 
@@ -12,4 +12,12 @@ overflow_cast-n c =
 
 pub tail_step-c-requires : goal.tail_step-c-requires
 tail_step-c-requires c =
-    (last_on c.requires c.loop-n.invariant, away _ _ _ _ c.loop-n-test.true c.elsewhere.ensures)
+    (last_on c.requires c.loop-n.invariant, λ e. absurd (grind (arith, nat_tests)))
+
+pub close_all-requires : goal.close_all-requires
+close_all-requires c =
+    record {
+      value = c.loop-n.nvalue;
+      last = last_on c.requires c.loop-n.invariant;
+      all = grind (arith, nat_tests);
+    }

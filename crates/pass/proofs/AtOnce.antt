@@ -5,7 +5,7 @@ use native.Mathlib.Omega.{arith}
 use Rattle.plan.proofs.Kit.{by_place}
 use mathlib.Core.Path.{◌≡◌, refl, sym, ap, ◌∙◌}
 use mathlib.Core.List.{List, []}
-use lib.ListN.{length, get_or, set, length-set}
+use lib.ListN.{length, set, length-set}
 use lib.Seq.{take_all}
 use Rattle.plan.specs.declared.Record.{Record}
 use Rattle.plan.specs.Tree.{Forest, none, count}
@@ -196,24 +196,19 @@ module _ {t i : Table} {l : List Record} {w u : Table} {c : Cursor} (U : Underwa
       pub closed : Underway t i l w u' c' []
       closed = moved_on U carried
 
-      pub closed-kept : Kept (out c') u u'
-      closed-kept = carried.moved.kept
-
       pub closed_less : ahead t c' < ahead t c
       closed_less = closing.1
 
--- all rows are copied, and another row than the root is open: it is closed, whatever the list is
-module _ {t : Table} {dist size value size' : List ℕ} {c c' : Cursor} (e : row c ≡ length t.size)
-    (ne : c.parent.0 ≡ 0 → ⊥) (es : size' ≡ set size c.under.0 (out c - c.under.0))
-    (ec : c' ≡ cursor c.stand (c.parent.0 - dist_at t c.parent.0) (c.under.0 - get_or dist c.under.0 0)
+-- the open row is closed where it ends: whatever list was at its end still is
+module _ {t u u' : Table} {c c' : Cursor} (v : Away (length t.size) 0 (row c) c.parent.0)
+    (e : row c ≡ c.parent.0 + size_at t c.parent.0) (eu : u' ≡ sized u c.under.0 (out c - c.under.0))
+    (ec : c' ≡ cursor c.stand (c.parent.0 - dist_at t c.parent.0) (c.under.0 - dist_at u c.under.0)
     c.valued.0) where
-  pub copied-closed : Copied t (table dist size value) c (table dist size' value) c'
+  pub copied-closed : Copied t u c u' c'
   copied-closed =
-      let n : ℕ = out c - c.under.0 in
       record {
-        still = λ i l w U.
-            closed U (λ x. ne) (end-here U e) (sized-is (table dist size value) c.under.0 n es) ec;
-        dist = refl;
-        size = rw es (length-set size c.under.0 n);
-        value = refl;
+        still = λ i l w U. closed U v e eu ec;
+        dist = rw eu refl;
+        size = rw eu (length-set u.size c.under.0 (out c - c.under.0));
+        value = rw eu refl;
       }

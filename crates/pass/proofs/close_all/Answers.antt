@@ -24,9 +24,12 @@ loop-c-smaller c =
 
 pub loop-c-preserved : goal.loop-c-preserved
 loop-c-preserved c =
+    let l = last_on c.requires.last (c.loop-c.invariant.0 c.requires.value) in
+    let e = end-here l.underway c.loop-c.invariant.1 in
     let k = c.close-c.ensures in (
       λ value.
           copied_trans (c.loop-c.invariant.0 value)
-          (copied-closed c.loop-c.invariant.1 (λ z. grind (arith, nat_tests)) k.nsize_after k.result_value),
+          (copied-closed (λ x z. grind (arith, nat_tests)) e
+          (sized-is (table c.args.ndist.now c.loop-c.nsize value) _ _ k.nsize_after) k.result_value),
       ap row k.result_value ∙ c.loop-c.invariant.1,
     )

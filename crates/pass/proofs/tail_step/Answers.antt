@@ -5,7 +5,7 @@ use native.Mathlib.Omega.{arith}
 use Rattle.std.proofs.lemmas.Bool.Decides.{nat_tests}
 use Rattle.pass_moves.specs.Written.{out}
 use Rattle.plan.specs.Table.{table}
-use Rattle.pass.proofs.AtOnce.{sized-is, parent-ends, can_copy, copied, copied-kept, copied_less, can_close_it, closed, closed-kept, closed_less}
+use Rattle.pass.proofs.AtOnce.{sized-is, parent-ends, can_copy, copied, copied-kept, copied_less, can_close_it, closed_less, copied-closed}
 use Rattle.pass.proofs.tail_step.Goals as goal
 
 pub end-e-requires : goal.end-e-requires
@@ -20,14 +20,8 @@ pub returns-then-eq : goal.returns-then-eq
 returns-then-eq c =
     let k = c.close.ensures.result_value in
     let x = table c.args.ndist.now c.args.nsize.now c.args.nvalue.now in
-    let u = sized-is x c.args.c.under.0 (out c.args.c - c.args.c.under.0) c.close.ensures.nsize_after in
-    let a = closed-kept c.requires.0.underway c.requires.1 (grind (arith, nat_tests)) u k in (
-      record {
-        still = λ i l w U. closed U c.requires.1 (grind (arith, nat_tests)) u k;
-        dist = a.dist;
-        size = a.size;
-        value = a.value;
-      },
+    let u = sized-is x c.args.c.under.0 (out c.args.c - c.args.c.under.0) c.close.ensures.nsize_after in (
+      copied-closed c.requires.1 (grind (arith, nat_tests)) u k,
       closed_less c.requires.0.underway c.requires.1 (grind (arith, nat_tests)) u k,
     )
 
